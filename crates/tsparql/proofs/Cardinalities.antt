@@ -1,0 +1,427 @@
+-- The rows of a node have the cardinalities of the published algebra (specs/Cardinality.antt), theorem cardinality-published.
+-- By group: tests and lists; the tests of sameness are equality; sums over lists; a sum over a list is one over its distinct rows
+-- (sum-distinct); the cardinality of a row in lists put together; a law per operator; nodes; and Definition 3.1 as it is published,
+-- for a variable that is free (cardinality-project-free).
+-- Assumes nothing.
+use mathlib.Core.Path.{_≡_, refl, sym, ap, ap₂, _∙_, fun-ext}
+use mathlib.Core.Bool.{Bool, true, false, _&&_, _||_, not, and-comm}
+use mathlib.Core.List.{List, [], _∷_, _++_, map}
+use Prim.Native.Nat.{ℕ, _+_, _*_}
+use native.Mathlib.Nat.{add-zero, zero-mul, mul-zero, mul-one, mul-add, suc-mul}
+use native.Mathlib.Omega.{arith}
+use lib.ListN.{length, take, set, length-append, length-map}
+use lib.Seq.{set-set, set-getD}
+use borrow.Author.Tests.{eqb-true, eq-eqb, not-true}
+use Rattle.tsparql.specs.Lists.{consIf, onlyIf, keepIf, all, concatMap}
+use Rattle.tsparql.specs.Values.{Trust, known, unknown, Cell, free, term, trusted, Row, cellAt, sameTrust, sameCell}
+use Rattle.tsparql.specs.Values.{compatible, merge, withTrust, trustInside}
+use Rattle.tsparql.specs.Query.{Pattern, Condition, Node, patternSet, join, leftJoin, union, filter, projectTrust, ensureTrust}
+use Rattle.tsparql.specs.Conditions.{Truth, holds, fails, errs, truthOn, trueOn, blocks, blocksOn}
+use Rattle.tsparql.specs.Rows.{merges, joinRows, stands, leftJoinRows, rowsOf}
+use Rattle.tsparql.specs.Cardinality.{sameCells, sameRow, cardinality, distinct, sumOver, countIf, isFalse, inDifference}
+use Rattle.tsparql.specs.Cardinality.{joinCardinality, filterCardinality, differenceCardinality, leftJoinCardinality}
+use Rattle.tsparql.specs.Cardinality.{unionCardinality, projectCardinality, ensureCardinality, publishedCardinality}
+use Rattle.tsparql.proofs.ListLaws.{and-left, and-right, and-both, test-eq, Every, every-of, every-weaken}
+use Rattle.tsparql.proofs.ListLaws.{consIf-append, keepIf-append, keepIf-keepIf, keepIf-cong, keepIf-and}
+use Rattle.tsparql.proofs.ListLaws.{keepIf-none, keepIf-map, keepIf-concatMap}
+
+-- ---- tests and lists
+
+not-and : (b : Bool) → not b && b ≡ false
+not-and true = refl
+not-and false = refl
+
+or-absorb : (p q : Bool) → (p ≡ true → q ≡ true) → p || q ≡ q
+or-absorb true q h = sym (h refl)
+or-absorb false q h = refl
+
+-- where every element passes the first test, each passes one of two
+all-or : {A : Type 0} (p q : A → Bool) (xs : List A) → all p xs ≡ true → all (λ x. p x || q x) xs ≡ true
+all-or p q [] e = refl
+all-or p q (x ∷ xs) e = rw (and-left (p x) (all p xs) e) (all-or p q xs (and-right (p x) (all p xs) e))
+
+all-map : {A B : Type 0} (p : B → Bool) (f : A → B) (xs : List A) → all p (map f xs) ≡ all (λ x. p (f x)) xs
+all-map p f [] = refl
+all-map p f (x ∷ xs) = ap (λ (b : Bool). p (f x) && b) (all-map p f xs)
+
+all-consIf : {A : Type 0} (p : A → Bool) (b : Bool) (x : A) (xs : List A) → all p (consIf b x xs) ≡ (not b || p x) && all p xs
+all-consIf p true x xs = refl
+all-consIf p false x xs = refl
+
+-- a test on those that pass another
+all-keepIf : {A : Type 0} (p q : A → Bool) (xs : List A) → all p (keepIf q xs) ≡ all (λ x. not (q x) || p x) xs
+all-keepIf p q [] = refl
+all-keepIf p q (x ∷ xs) = all-consIf p (q x) x (keepIf q xs) ∙ ap (λ (b : Bool). (not (q x) || p x) && b) (all-keepIf p q xs)
+
+-- what is kept passes the test
+keepIf-passes : {A : Type 0} (p : A → Bool) (xs : List A) → Every (λ x. p x ≡ true) (keepIf p xs)
+keepIf-passes p [] = tt
+keepIf-passes p (x ∷ xs) = at (p x) refl (keepIf-passes p xs)
+  where
+    at : (b : Bool) → p x ≡ b → Every (λ y. p y ≡ true) (keepIf p xs) → Every (λ y. p y ≡ true) (consIf b x (keepIf p xs))
+    at true e h = (e, h)
+    at false e h = h
+
+-- each element that passes a test, as a list of its own
+concatMap-single : {A : Type 0} (p : A → Bool) (xs : List A) → concatMap (λ x. consIf (p x) x []) xs ≡ keepIf p xs
+concatMap-single p [] = refl
+concatMap-single p (x ∷ xs) =
+    consIf-append (p x) x [] (concatMap (λ y. consIf (p y) y []) xs) ∙ ap (consIf (p x) x) (concatMap-single p xs)
+
+-- ---- the tests of sameness are equality
+
+pub sameTrust-true : (t u : Trust) → sameTrust t u ≡ true → t ≡ u
+sameTrust-true (known a) (known b) e = ap known (eqb-true a b e)
+sameTrust-true (known a) unknown e = cc
+sameTrust-true unknown (known b) e = cc
+sameTrust-true unknown unknown e = refl
+
+pub sameTrust-refl : (t : Trust) → sameTrust t t ≡ true
+sameTrust-refl (known a) = eq-eqb a a refl
+sameTrust-refl unknown = refl
+
+pub sameCell-true : (c d : Cell) → sameCell c d ≡ true → c ≡ d
+sameCell-true free free e = refl
+sameCell-true free (term b) e = cc
+sameCell-true free (trusted u) e = cc
+sameCell-true (term a) free e = cc
+sameCell-true (term a) (term b) e = ap term (eqb-true a b e)
+sameCell-true (term a) (trusted u) e = cc
+sameCell-true (trusted t) free e = cc
+sameCell-true (trusted t) (term b) e = cc
+sameCell-true (trusted t) (trusted u) e = ap trusted (sameTrust-true t u e)
+
+pub sameCell-refl : (c : Cell) → sameCell c c ≡ true
+sameCell-refl free = refl
+sameCell-refl (term a) = eq-eqb a a refl
+sameCell-refl (trusted t) = sameTrust-refl t
+
+pub sameCells-true : (cs ds : List Cell) → sameCells cs ds ≡ true → cs ≡ ds
+sameCells-true [] [] e = refl
+sameCells-true [] (d ∷ ds) e = cc
+sameCells-true (c ∷ cs) [] e = cc
+sameCells-true (c ∷ cs) (d ∷ ds) e =
+    ap₂ _∷_ (sameCell-true c d (and-left (sameCell c d) (sameCells cs ds) e))
+    (sameCells-true cs ds (and-right (sameCell c d) (sameCells cs ds) e))
+
+pub sameCells-refl : (cs : List Cell) → sameCells cs cs ≡ true
+sameCells-refl [] = refl
+sameCells-refl (c ∷ cs) = and-both (sameCell-refl c) (sameCells-refl cs)
+
+pub sameRow-true : (x y : Row) → sameRow x y ≡ true → x ≡ y
+sameRow-true x y e = λ i. record { cells = onCells i; trust = onTrust i }
+  where
+    onCells : x .cells ≡ y .cells
+    onCells = sameCells-true (x .cells) (y .cells) (and-left _ (sameTrust (x .trust) (y .trust)) e)
+
+    onTrust : x .trust ≡ y .trust
+    onTrust = sameTrust-true (x .trust) (y .trust) (and-right (sameCells (x .cells) (y .cells)) _ e)
+
+pub sameRow-refl : (x : Row) → sameRow x x ≡ true
+sameRow-refl x = and-both (sameCells-refl (x .cells)) (sameTrust-refl (x .trust))
+
+pub sameRow-of-eq : (x y : Row) → x ≡ y → sameRow x y ≡ true
+sameRow-of-eq x y e = rw e (sameRow-refl y)
+
+pub sameRow-sym : (x y : Row) → sameRow x y ≡ sameRow y x
+sameRow-sym x y =
+    test-eq (sameRow x y) (sameRow y x) (λ e. sameRow-of-eq y x (sym (sameRow-true x y e)))
+    (λ e. sameRow-of-eq x y (sym (sameRow-true y x e)))
+
+-- ---- sums over lists
+
+pub sumOver-add : (xs : List Row) (f g : Row → ℕ) → sumOver xs (λ x. f x + g x) ≡ sumOver xs f + sumOver xs g
+sumOver-add [] f g = refl
+sumOver-add (x ∷ xs) f g = omega (arith, sumOver-add xs f g)
+
+pub sumOver-mul : (n : ℕ) (xs : List Row) (f : Row → ℕ) → n * sumOver xs f ≡ sumOver xs (λ x. n * f x)
+sumOver-mul n [] f = mul-zero n
+sumOver-mul n (x ∷ xs) f = mul-add n (f x) (sumOver xs f) ∙ ap (λ (s : ℕ). n * f x + s) (sumOver-mul n xs f)
+
+-- two functions that agree on every element have the same sum
+pub sumOver-cong : (xs : List Row) (f g : Row → ℕ) → Every (λ x. f x ≡ g x) xs → sumOver xs f ≡ sumOver xs g
+sumOver-cong [] f g e = refl
+sumOver-cong (x ∷ xs) f g e = ap₂ _+_ (e .0) (sumOver-cong xs f g (e .1))
+
+-- two functions that agree everywhere have the same sum
+pub sumOver-same : (xs : List Row) (f g : Row → ℕ) → ((x : Row) → f x ≡ g x) → sumOver xs f ≡ sumOver xs g
+sumOver-same xs f g e = sumOver-cong xs f g (every-of e xs)
+
+pub countIf-mul : (b : Bool) (n m : ℕ) → n * countIf b m ≡ countIf b (n * m)
+countIf-mul true n m = refl
+countIf-mul false n m = mul-zero n
+
+length-onlyIf-count : (b : Bool) (xs : List Row) → length (onlyIf b xs) ≡ countIf b (length xs)
+length-onlyIf-count true xs = refl
+length-onlyIf-count false xs = refl
+
+-- a number is what it counts where a test passes, and where it does not
+pub countIf-split : (b : Bool) (n : ℕ) → n ≡ countIf b n + countIf (not b) n
+countIf-split true n = omega arith
+countIf-split false n = omega arith
+
+pub sumOver-consIf : (b : Bool) (x : Row) (xs : List Row) (f : Row → ℕ) → sumOver (consIf b x xs) f ≡ countIf b (f x) + sumOver xs f
+sumOver-consIf true x xs f = refl
+sumOver-consIf false x xs f = omega arith
+
+-- a sum is the sum over the elements that pass a test, and over those that do not
+pub sumOver-split : (p : Row → Bool) (xs : List Row) (f : Row → ℕ)
+    → sumOver xs f ≡ sumOver (keepIf p xs) f + sumOver (keepIf (λ x. not (p x)) xs) f
+sumOver-split p [] f = refl
+sumOver-split p (x ∷ xs) f =
+    omega (
+      arith,
+      sumOver-split p xs f,
+      countIf-split (p x) (f x),
+      sumOver-consIf (p x) x (keepIf p xs) f,
+      sumOver-consIf (not (p x)) x (keepIf (λ y. not (p y)) xs) f,
+    )
+
+-- the length of a list, as a sum
+pub length-sum : (xs : List Row) → length xs ≡ sumOver xs (λ x. 1)
+length-sum [] = refl
+length-sum (x ∷ xs) = omega (arith, length-sum xs)
+
+-- the elements that pass a test, counted one by one
+pub length-keepIf-sum : (p : Row → Bool) (xs : List Row) → length (keepIf p xs) ≡ sumOver xs (λ x. countIf (p x) 1)
+length-keepIf-sum p [] = refl
+length-keepIf-sum p (x ∷ xs) =
+    omega (
+      arith,
+      length-sum (keepIf p (x ∷ xs)),
+      length-sum (keepIf p xs),
+      length-keepIf-sum p xs,
+      sumOver-consIf (p x) x (keepIf p xs) (λ y. 1),
+    )
+
+-- ---- a sum over a list is one over its distinct rows
+
+-- of the distinct rows, x is the one there is, if there is one
+pub keepIf-distinct : (x : Row) (ys : List Row) → keepIf (sameRow x) (distinct ys) ≡ take 1 (keepIf (sameRow x) ys)
+keepIf-distinct x [] = refl
+keepIf-distinct x (y ∷ ys) = at (sameRow x y) refl (keepIf-distinct x ys)
+  where
+    others : List Row
+    others = keepIf (λ z. not (sameRow y z)) (distinct ys)
+
+    both : (z : Row) → Bool
+    both z = not (sameRow y z) && sameRow x z
+
+    twice : keepIf (sameRow x) others ≡ keepIf both (distinct ys)
+    twice = keepIf-keepIf (sameRow x) (λ z. not (sameRow y z)) (distinct ys)
+
+    none : (z : Row) → x ≡ y → both z ≡ false
+    none z e = rw e (not-and (sameRow y z))
+
+    same : (z : Row) → sameRow x y ≡ false → both z ≡ sameRow x z
+    same z e =
+        test-eq (both z) (sameRow x z) (and-right (not (sameRow y z)) (sameRow x z))
+        (λ f. and-both (ap not (ap (sameRow y) (sym (sameRow-true x z f)) ∙ sameRow-sym y x ∙ e)) f)
+
+    at : (b : Bool) → sameRow x y ≡ b → keepIf (sameRow x) (distinct ys) ≡ take 1 (keepIf (sameRow x) ys)
+        → consIf b y (keepIf (sameRow x) others) ≡ take 1 (consIf b y (keepIf (sameRow x) ys))
+    at true e h =
+        let gone : keepIf both (distinct ys) ≡ [] =
+        keepIf-none both (distinct ys) (every-of (λ z. none z (sameRow-true x y e)) (distinct ys)) in
+        ap (λ (zs : List Row). y ∷ zs) (twice ∙ gone)
+    at false e h = twice ∙ keepIf-cong both (sameRow x) (distinct ys) (every-of (λ z. same z e) (distinct ys)) ∙ h
+
+-- where every element is x, and a value of 0 stands for none: the value of the first element is that of x
+sumOver-first : (x : Row) (ys : List Row) (f : Row → ℕ) → Every (λ y. sameRow x y ≡ true) ys → (length ys ≡ 0 → f x ≡ 0)
+    → sumOver (take 1 ys) f ≡ f x
+sumOver-first x [] f e h = sym (h refl)
+sumOver-first x (y ∷ ys) f e h = add-zero (f y) ∙ ap f (sym (sameRow-true x y (e .0)))
+
+-- a sum over a list is the sum over its distinct rows, each as often as it stands in the list
+pub sum-distinct : (xs : List Row) (f : Row → ℕ) → sumOver xs f ≡ sumOver (distinct xs) (λ x. cardinality xs x * f x)
+sum-distinct [] f = refl
+sum-distinct (x ∷ xs) f = total (sum-distinct xs f)
+  where
+    times : Row → ℕ
+    times y = cardinality xs y * f y
+
+    others : List Row
+    others = keepIf (λ y. not (sameRow x y)) (distinct xs)
+
+    front : cardinality (x ∷ xs) x * f x ≡ f x + times x
+    front = rw (sameRow-refl x) (omega (arith, suc-mul (cardinality xs x) (f x)))
+
+    here : sumOver (keepIf (sameRow x) (distinct xs)) times ≡ times x
+    here =
+        rw (keepIf-distinct x xs)
+        (sumOver-first x (keepIf (sameRow x) xs) times (keepIf-passes (sameRow x) xs) (λ e. ap (λ (n : ℕ). n * f x) e ∙ zero-mul (f x)))
+
+    skipped : (y : Row) → not (sameRow x y) ≡ true → times y ≡ cardinality (x ∷ xs) y * f y
+    skipped y e = rw (sameRow-sym y x, not-true (sameRow x y) e)
+
+    there : sumOver others times ≡ sumOver others (λ y. cardinality (x ∷ xs) y * f y)
+    there = sumOver-cong others times _ (every-weaken skipped others (keepIf-passes (λ y. not (sameRow x y)) (distinct xs)))
+
+    total : sumOver xs f ≡ sumOver (distinct xs) times
+        → sumOver (x ∷ xs) f ≡ sumOver (distinct (x ∷ xs)) (λ y. cardinality (x ∷ xs) y * f y)
+    total h = omega (arith, front, here, there, sumOver-split (sameRow x) (distinct xs) times)
+
+-- how many elements pass a test, over the distinct rows
+pub length-keepIf-distinct : (p : Row → Bool) (xs : List Row)
+    → length (keepIf p xs) ≡ sumOver (distinct xs) (λ x. countIf (p x) (cardinality xs x))
+length-keepIf-distinct p xs =
+    length-keepIf-sum p xs
+    ∙ sum-distinct xs (λ x. countIf (p x) 1)
+    ∙ sumOver-same (distinct xs) _ _ (λ x. countIf-mul (p x) (cardinality xs x) 1 ∙ ap (countIf (p x)) (mul-one (cardinality xs x)))
+
+-- ---- the cardinality of a row in lists put together
+
+pub cardinality-append : (xs ys : List Row) (r : Row) → cardinality (xs ++ ys) r ≡ cardinality xs r + cardinality ys r
+cardinality-append xs ys r =
+    ap length (keepIf-append (sameRow r) xs ys) ∙ length-append (keepIf (sameRow r) xs) (keepIf (sameRow r) ys)
+
+-- a row stands among the values as often as an element has it for a value
+pub cardinality-map : {A : Type 0} (f : A → Row) (xs : List A) (r : Row)
+    → cardinality (map f xs) r ≡ length (keepIf (λ x. sameRow r (f x)) xs)
+cardinality-map f xs r = ap length (keepIf-map (sameRow r) f xs) ∙ length-map (keepIf (λ x. sameRow r (f x)) xs) f
+
+pub cardinality-concatMap : (f : Row → List Row) (xs : List Row) (r : Row)
+    → cardinality (concatMap f xs) r ≡ sumOver xs (λ x. cardinality (f x) r)
+cardinality-concatMap f [] r = refl
+cardinality-concatMap f (x ∷ xs) r =
+    cardinality-append (f x) (concatMap f xs) r ∙ ap (λ (n : ℕ). cardinality (f x) r + n) (cardinality-concatMap f xs r)
+
+-- what two functions make of each element, counted apart
+pub cardinality-concatMap-append : (f g : Row → List Row) (xs : List Row) (r : Row)
+    → cardinality (concatMap (λ x. f x ++ g x) xs) r ≡ cardinality (concatMap f xs) r + cardinality (concatMap g xs) r
+cardinality-concatMap-append f g xs r =
+    cardinality-concatMap (λ x. f x ++ g x) xs r
+    ∙ sumOver-same xs _ _ (λ x. cardinality-append (f x) (g x) r)
+    ∙ sumOver-add xs (λ x. cardinality (f x) r) (λ x. cardinality (g x) r)
+    ∙ ap₂ _+_ (sym (cardinality-concatMap f xs r)) (sym (cardinality-concatMap g xs r))
+
+-- a row that passes the test stands among those that do as often as it stands in the list, and one that fails it never
+pub cardinality-keepIf : (p : Row → Bool) (xs : List Row) (r : Row) → cardinality (keepIf p xs) r ≡ countIf (p r) (cardinality xs r)
+cardinality-keepIf p xs r =
+    ap length kept ∙ length-onlyIf-count (p r) (keepIf (sameRow r) xs)
+  where
+    at : (x : Row) (b : Bool) → sameRow r x ≡ b → p x && b ≡ p r && b
+    at x true e = ap (λ (y : Row). p y && true) (sym (sameRow-true r x e))
+    at x false e = and-comm (p x) false ∙ and-comm false (p r)
+
+    kept : keepIf (sameRow r) (keepIf p xs) ≡ onlyIf (p r) (keepIf (sameRow r) xs)
+    kept =
+        keepIf-keepIf (sameRow r) p xs
+        ∙ keepIf-cong (λ x. p x && sameRow r x) (λ x. p r && sameRow r x) xs (every-of (λ x. at x (sameRow r x) refl) xs)
+        ∙ keepIf-and (p r) (sameRow r) xs
+
+-- ---- a law per operator
+
+-- how often a row stands in the merges of a left row
+pub cardinality-merges : (x : Row) (ys : List Row) (r : Row)
+    → cardinality (merges x ys) r ≡ sumOver (distinct ys) (λ y. countIf (compatible x y && sameRow r (merge x y)) (cardinality ys y))
+cardinality-merges x ys r =
+    cardinality-map (merge x) (keepIf (compatible x) ys) r
+    ∙ ap length (keepIf-keepIf (λ y. sameRow r (merge x y)) (compatible x) ys)
+    ∙ length-keepIf-distinct (λ y. compatible x y && sameRow r (merge x y)) ys
+
+pub cardinality-join : (xs ys : List Row) (r : Row) → cardinality (joinRows xs ys) r ≡ joinCardinality xs ys r
+cardinality-join xs ys r =
+    cardinality-concatMap (λ x. merges x ys) xs r
+    ∙ sum-distinct xs (λ x. cardinality (merges x ys) r)
+    ∙ sumOver-same (distinct xs) (λ x. cardinality xs x * cardinality (merges x ys) r) products onLeft
+  where
+    merged : Row → Row → Bool
+    merged x y = compatible x y && sameRow r (merge x y)
+
+    products : Row → ℕ
+    products x = sumOver (distinct ys) (λ y. countIf (merged x y) (cardinality xs x * cardinality ys y))
+
+    onLeft : (x : Row) → cardinality xs x * cardinality (merges x ys) r ≡ products x
+    onLeft x =
+        ap (λ (n : ℕ). cardinality xs x * n) (cardinality-merges x ys r)
+        ∙ sumOver-mul (cardinality xs x) (distinct ys) (λ y. countIf (merged x y) (cardinality ys y))
+        ∙ sumOver-same (distinct ys) _ _ (λ y. countIf-mul (merged x y) (cardinality xs x) (cardinality ys y))
+
+pub cardinality-filter : (c : Condition) (xs : List Row) (r : Row)
+    → cardinality (keepIf (trueOn c) xs) r ≡ filterCardinality c (cardinality xs) r
+cardinality-filter c xs r = cardinality-keepIf (trueOn c) xs r
+
+-- all but false blocks
+not-blocks : (t : Truth) → not (blocks t) ≡ isFalse t
+not-blocks holds = refl
+not-blocks fails = refl
+not-blocks errs = refl
+
+-- a left row stands alone just where it is in the difference
+pub stands-inDifference : (c : Condition) (ys : List Row) (x : Row) → stands c (merges x ys) ≡ inDifference c ys x
+unfolding stands blocksOn
+stands-inDifference c ys x =
+    all-map (λ m. not (blocksOn c m)) (merge x) (keepIf (compatible x) ys)
+    ∙ all-keepIf (λ y. not (blocksOn c (merge x y))) (compatible x) ys
+    ∙ ap (λ (p : Row → Bool). all (λ y. not (compatible x y) || p y) ys) (fun-ext (λ y. not-blocks (truthOn (merge x y .cells) c)))
+    ∙ sym (or-absorb _ _ (all-or (λ y. not (compatible x y)) _ ys))
+
+pub cardinality-leftJoin : (c : Condition) (xs ys : List Row) (r : Row)
+    → cardinality (leftJoinRows c xs ys) r ≡ leftJoinCardinality c xs ys r
+cardinality-leftJoin c xs ys r =
+    cardinality-concatMap-append (λ x. keepIf (trueOn c) (merges x ys)) (λ x. consIf (stands c (merges x ys)) x []) xs r
+    ∙ ap₂ _+_ filtered difference
+  where
+    filtered : cardinality (concatMap (λ x. keepIf (trueOn c) (merges x ys)) xs) r ≡ filterCardinality c (joinCardinality xs ys) r
+    filtered =
+        ap (λ (zs : List Row). cardinality zs r) (sym (keepIf-concatMap (trueOn c) (λ x. merges x ys) xs))
+        ∙ cardinality-filter c (joinRows xs ys) r
+        ∙ ap (countIf (trueOn c r)) (cardinality-join xs ys r)
+
+    difference : cardinality (concatMap (λ x. consIf (stands c (merges x ys)) x []) xs) r ≡ differenceCardinality c xs ys r
+    difference =
+        ap (λ (zs : List Row). cardinality zs r) (concatMap-single (λ x. stands c (merges x ys)) xs)
+        ∙ cardinality-keepIf (λ x. stands c (merges x ys)) xs r
+        ∙ ap (λ (b : Bool). countIf b (cardinality xs r)) (stands-inDifference c ys r)
+
+pub cardinality-union : (xs ys : List Row) (r : Row) → cardinality (xs ++ ys) r ≡ unionCardinality xs ys r
+cardinality-union xs ys r = cardinality-append xs ys r
+
+pub cardinality-project : (v : ℕ) (xs : List Row) (r : Row) → cardinality (map (withTrust v) xs) r ≡ projectCardinality v xs r
+cardinality-project v xs r = cardinality-map (withTrust v) xs r ∙ length-keepIf-distinct (λ x. sameRow r (withTrust v x)) xs
+
+pub cardinality-ensure : (l u : ℕ) (xs : List Row) (r : Row) → cardinality (keepIf (trustInside l u) xs) r ≡ ensureCardinality l u xs r
+cardinality-ensure l u xs r = cardinality-keepIf (trustInside l u) xs r
+
+-- ---- nodes
+
+-- how often a row stands among the rows of a node is the published cardinality
+pub cardinality-published : (base : List Pattern → List Row) (q : Node) (r : Row)
+    → cardinality (rowsOf base q) r ≡ publishedCardinality base q r
+unfolding rowsOf publishedCardinality
+cardinality-published base (patternSet ps) r = refl
+cardinality-published base (join x y) r = cardinality-join (rowsOf base x) (rowsOf base y) r
+cardinality-published base (leftJoin c x y) r = cardinality-leftJoin c (rowsOf base x) (rowsOf base y) r
+cardinality-published base (union x y) r = cardinality-union (rowsOf base x) (rowsOf base y) r
+cardinality-published base (filter c x) r = cardinality-filter c (rowsOf base x) r
+cardinality-published base (projectTrust v x) r = cardinality-project v (rowsOf base x) r
+cardinality-published base (ensureTrust l u x) r = cardinality-ensure l u (rowsOf base x) r
+
+-- ---- Definition 3.1 as it is published
+
+-- a variable is free in a row
+abbrev pub FreeAt : ℕ → Row → Type 0
+FreeAt v r = cellAt (r .cells) v ≡ free
+
+-- a row is known from the row with its trust at v, where v was free
+pub withTrust-injective : (v : ℕ) (x y : Row) → FreeAt v x → FreeAt v y → withTrust v x ≡ withTrust v y → x ≡ y
+withTrust-injective v x y f g e = λ i. record { cells = onCells i; trust = e i .trust }
+  where
+    back : (z : Row) → FreeAt v z → z .cells ≡ set (withTrust v z .cells) v free
+    back z h = sym (set-set (z .cells) v _ free ∙ ap (set (z .cells) v) (sym h) ∙ set-getD (z .cells) v free)
+
+    onCells : x .cells ≡ y .cells
+    onCells = back x f ∙ ap (λ (z : Row). set (z .cells) v free) e ∙ sym (back y g)
+
+-- where the variable is free in the row and in every row of the operand, project trust keeps the cardinality
+pub cardinality-project-free : (v : ℕ) (xs : List Row) (r : Row) → Every (FreeAt v) xs → FreeAt v r
+    → cardinality (map (withTrust v) xs) (withTrust v r) ≡ cardinality xs r
+cardinality-project-free v xs r e f =
+    cardinality-map (withTrust v) xs (withTrust v r) ∙ ap length (keepIf-cong _ (sameRow r) xs (every-weaken at xs e))
+  where
+    at : (x : Row) → FreeAt v x → sameRow (withTrust v r) (withTrust v x) ≡ sameRow r x
+    at x g =
+        test-eq _ (sameRow r x)
+        (λ h. sameRow-of-eq r x (withTrust-injective v r x f g (sameRow-true (withTrust v r) (withTrust v x) h)))
+        (λ h. sameRow-of-eq (withTrust v r) (withTrust v x) (ap (withTrust v) (sameRow-true r x h)))

@@ -1,0 +1,318 @@
+-- The worked cases of document 01 and some more, as one table about the definitions with one proof, by computation.
+-- An entry has what the definitions give on its left and what the paper says on its right. Right sides are worked out by hand.
+-- In three groups: cases 1 to 9; more of rows, order and trust; refusals and their places. Inputs are in hexadecimal.
+-- Assumes nothing.
+use mathlib.Core.Path.{_≡_, refl}
+use mathlib.Core.Bool.{not, cond}
+use mathlib.Core.List.{List, [], _∷_, _++_, map}
+use Prim.Native.Nat.{ℕ, _+_, _*_, _-_}
+use Prim.Native.Char.{code}
+use Prim.Native.String.{String, [] as ε, _∷_ as _then_}
+use lib.Dec.{eqb, ltb}
+use lib.ListN.{length, replicate}
+use Rattle.tsparql.specs.Lists.{consIf}
+use Rattle.tsparql.specs.Values.{compatible, mergeCells}
+use Rattle.tsparql.specs.Conditions.{truthOn, trueOn, blocksOn}
+use Rattle.tsparql.specs.Rows.{stands, rowsOf, spaceOf, pairsOf}
+use Rattle.tsparql.specs.Table.{bigEndian, recordAt, factOf, below, factAt, factsIn}
+use Rattle.tsparql.specs.PatternSets.{bindPattern, matches, choices, least, setRows}
+use Rattle.tsparql.specs.Ceiling.{matching, product, ceilingOf}
+use Rattle.tsparql.specs.Push.{push}
+use Rattle.tsparql.specs.Writing.{patternBytes, conditionBytes, nodeBytes}
+use Rattle.tsparql.specs.Reading.{readPattern, readPatterns, conditionStep, readConditionIn, readCondition}
+use Rattle.tsparql.specs.Reading.{nodeStep, readNodeIn, readNode, readQuery, queryNode}
+use Rattle.tsparql.specs.Check.{recordRefusal, recordsRefusal, tableRefusal, projections, patternVariables}
+use Rattle.tsparql.specs.Check.{variablesRefusal, queryRefusal, check}
+use Rattle.tsparql.specs.Evaluate.{trustWord, rowWords, answer, evaluateOver}
+use Rattle.tsparql.specs.Rewrite.{rewriting, rewriteRefusal, rewrite}
+use Rattle.tsparql.specs.Calls.{evaluateUntallied, ceilingIn, ceilingCall, Tally, tallied, run}
+use Rattle.tsparql.specs.Strikes.{ascii, digits, decimal, rowLine, refusedLine, countsLine, report, strikes}
+
+-- ---- hexadecimal
+
+-- a digit from its character
+nibble : ℕ → ℕ
+nibble c = cond (ltb c 58) (c - 48) (c - 55)
+
+nibbles : String → List ℕ
+nibbles ε = []
+nibbles (c then s) = consIf (not (eqb (code c) 32)) (nibble (code c)) (nibbles s)
+
+inPairs : List ℕ → List ℕ
+inPairs [] = []
+inPairs (a ∷ []) = []
+inPairs (a ∷ b ∷ ns) = (16 * a + b) ∷ inPairs ns
+
+-- bytes from digits in capitals; spaces are passed over
+hex : String → List ℕ
+hex s = inPairs (nibbles s)
+
+-- ---- stores and queries
+
+-- the store W
+W : List ℕ
+W =
+    hex "00 00 10 00 0A 00 00 BF 6C"
+    ++ (hex "00 00 10 00 0A 00 00 CC B0" ++ (hex "00 00 10 00 14 00 01 5F 08" ++ hex "00 00 20 00 14 00 01 50 00"))
+
+-- only (1,10,12) 200 and (1,20,21) 800
+twoRecords : List ℕ
+twoRecords = hex "00 00 10 00 0A 00 00 CC B0" ++ hex "00 00 10 00 14 00 01 5F 08"
+
+-- (1,10,11) 400 and (1,20,21) 900
+lowAndHigh : List ℕ
+lowAndHigh = hex "00 00 10 00 0A 00 00 BD 78" ++ hex "00 00 10 00 14 00 01 5F 6C"
+
+-- (1,10,11) -5 and (1,20,21) -1000
+negative : List ℕ
+negative = hex "00 00 10 00 0A 00 00 BB E3" ++ hex "00 00 10 00 14 00 01 58 00"
+
+-- the sets {?0 20 21}, {?0 10 ?1} and {?2 20 21}
+A : List ℕ
+A = hex "01 10 00 00 00 00 14 00 00 15"
+
+B : List ℕ
+B = hex "01 10 00 00 00 00 0A 10 00 01"
+
+C : List ℕ
+C = hex "01 10 00 02 00 00 14 00 00 15"
+
+-- the bound 500 to 1000 on a query
+E : List ℕ → List ℕ
+E q = hex "60 5D C7 D0" ++ q
+
+-- the bounds -1000 to 1000, and -1000 to 500
+anyKnown : List ℕ → List ℕ
+anyKnown q = hex "60 00 07 D0" ++ q
+
+atMost500 : List ℕ → List ℕ
+atMost500 q = hex "60 00 05 DC" ++ q
+
+joinAB : List ℕ
+joinAB = hex "10" ++ (A ++ B)
+
+-- the left join of A and B under a condition
+leftAB : List ℕ → List ℕ
+leftAB c = hex "20" ++ (c ++ (A ++ B))
+
+-- ---- what the definitions give
+
+-- an evaluation in so many words, all 7 at first: number, place, rows, peak, pairs, and the row space at the end
+evaluated : List ℕ → List ℕ → ℕ → List ℕ
+evaluated t q words = let e = evaluateUntallied t q (replicate words 7) in
+    e .refusal .number ∷ e .refusal .place ∷ e .rows ∷ e .peak ∷ e .pairs ∷ e .space
+
+-- number and place of the check
+checked : List ℕ → List ℕ → List ℕ
+checked t q = check t q .number ∷ check t q .place ∷ []
+
+-- number, place and ceiling
+ceilings : List ℕ → List ℕ → List ℕ
+ceilings t q = let c = ceilingCall t q in c .refusal .number ∷ c .refusal .place ∷ c .ceiling ∷ []
+
+-- a rewriting into so many bytes, all 7 at first: number, place, length, and the output at the end
+rewritten : List ℕ → ℕ → List ℕ
+rewritten q bytes = let r = rewrite q (replicate bytes 7) in r .refusal .number ∷ r .refusal .place ∷ r .size ∷ r .output
+
+-- subject, predicate, object and trust of a record
+fields : List ℕ → List ℕ
+fields t = let f = factOf (recordAt t 0) in f .subject ∷ f .predicate ∷ f .object ∷ trustWord (f .trust) ∷ []
+
+-- answered and refused after evaluations of queries over W, from a tally
+tallies : Tally → List (List ℕ) → List ℕ
+tallies a qs = let b = run a (map (λ q. record { table = W; query = q; space = replicate 17 7 }) qs) in
+    b .answered ∷ b .refused ∷ []
+
+-- ---- the table
+
+infix 10 _gives_
+data Case : Type 0 where
+  _gives_ : List ℕ → List ℕ → Case
+
+computed : Case → List ℕ
+computed (x gives y) = x
+
+expected : Case → List ℕ
+expected (x gives y) = y
+
+-- cases 1 to 9 of the paper
+paperCases : List Case
+paperCases =
+    -- 1
+    (length (E joinAB) ∷ [] gives 25 ∷ [])
+    ∷ (strikes W (E joinAB) gives ascii "rows 1 peak 6 pairs 4\n800 ?0=1 ?1=11\n")
+    -- 2
+    ∷ (length (rewriting (E joinAB)) ∷ [] gives 29 ∷ [])
+    ∷ (rewriting (E joinAB) gives hex "10" ++ (E A ++ E B))
+    ∷ (strikes W (rewriting (E joinAB)) gives ascii "rows 1 peak 3 pairs 1\n800 ?0=1 ?1=11\n")
+    -- 3
+    ∷ (strikes W (E (leftAB (hex "70"))) gives ascii "rows 1 peak 7 pairs 4\n800 ?0=1 ?1=11\n")
+    -- 4
+    ∷ (rewriting (E (leftAB (hex "70"))) gives E (hex "20 70" ++ (E A ++ B)))
+    ∷ (strikes W (rewriting (E (leftAB (hex "70")))) gives ascii "rows 1 peak 5 pairs 2\n800 ?0=1 ?1=11\n")
+    -- 5
+    ∷ (strikes W (anyKnown A) gives ascii "rows 1 peak 2 pairs 0\n800 ?0=1\n")
+    -- 6
+    ∷ (strikes W (hex "60 00 07 CF 00") gives ascii "rows 0 peak 1 pairs 0\n")
+    -- 7
+    ∷ (evaluated W (hex "00") 16 gives 8 ∷ 0 ∷ 0 ∷ 0 ∷ 0 ∷ replicate 16 0)
+    ∷ (evaluated W (hex "00") 17 gives 0 ∷ 0 ∷ 1 ∷ 1 ∷ 0 ∷ (replicate 16 0 ++ (2000 ∷ [])))
+    -- 8
+    ∷ (checked W [] gives 6 ∷ 0 ∷ [])
+    ∷ (strikes W [] gives ascii "refused 6 at 0\n")
+    ∷ (checked W (hex "00 00") gives 6 ∷ 1 ∷ [])
+    -- 9
+    ∷ (ceilings W joinAB gives 0 ∷ 0 ∷ 4 ∷ [])
+    ∷ []
+
+-- order, trust, shortcuts, conditions, words
+moreCases : List Case
+moreCases =
+    -- the paper's record: (1, 10, 11) with trust 900; and the last of W, whose trust is unknown
+    (fields (hex "00 00 10 00 0A 00 00 BF 6C") gives 1 ∷ 10 ∷ 11 ∷ 1900 ∷ [])
+    ∷ (fields (hex "00 00 20 00 14 00 01 50 00") gives 2 ∷ 20 ∷ 21 ∷ 2001 ∷ [])
+    -- shortcut: E into the right of a left join would list ?0 = 1 bare
+    ∷ (strikes twoRecords (E (leftAB (hex "70"))) gives ascii "rows 0 peak 3 pairs 1\n")
+    ∷ (strikes twoRecords (rewriting (E (leftAB (hex "70")))) gives ascii "rows 0 peak 3 pairs 1\n")
+    -- shortcut: -1000 to 1000 as if it were none would list ?0 = 2, which is unknown
+    ∷ (rewriting (anyKnown A) gives anyKnown A)
+    ∷ (strikes W (rewriting (anyKnown A)) gives ascii "rows 1 peak 2 pairs 0\n800 ?0=1\n")
+    -- shortcut: an unmatched left row, ?0 = 2, would be listed twice
+    ∷ (strikes W (leftAB (hex "70")) gives ascii "rows 3 peak 7 pairs 4\n800 ?0=1 ?1=11\n200 ?0=1 ?1=12\n? ?0=2\n")
+    -- shortcut: u handed to the operands of a join would lose the row of 400 and 900
+    ∷ (strikes lowAndHigh (atMost500 joinAB) gives ascii "rows 1 peak 3 pairs 1\n400 ?0=1 ?1=11\n")
+    ∷ (rewriting (atMost500 joinAB) gives atMost500 (hex "10" ++ (anyKnown A ++ anyKnown B)))
+    ∷ (strikes lowAndHigh (rewriting (atMost500 joinAB)) gives ascii "rows 1 peak 3 pairs 1\n400 ?0=1 ?1=11\n")
+    -- a bound in a bound: the greater l and the lesser u
+    ∷ (rewriting (E (atMost500 A)) gives hex "60 5D C5 DC" ++ A)
+    -- a set of two patterns: by the first pattern's record, then the second's; the least trust
+    ∷ (strikes W (hex "02 10 00 00 00 00 0A 10 00 01 10 00 02 00 00 14 00 00 15")
+    gives ascii "rows 4 peak 4 pairs 0\n800 ?0=1 ?1=11 ?2=1\n? ?0=1 ?1=11 ?2=2\n200 ?0=1 ?1=12 ?2=1\n? ?0=1 ?1=12 ?2=2\n")
+    -- a variable that stands twice gets one term: {?0 10 ?0} has no row
+    ∷ (strikes W (hex "01 10 00 00 00 00 0A 10 00 00") gives ascii "rows 0 peak 0 pairs 0\n")
+    -- a join: by the left row, then the right row
+    ∷ (strikes W (hex "10" ++ (B ++ C))
+    gives ascii "rows 4 peak 8 pairs 4\n800 ?0=1 ?1=11 ?2=1\n? ?0=1 ?1=11 ?2=2\n200 ?0=1 ?1=12 ?2=1\n? ?0=1 ?1=12 ?2=2\n")
+    -- a union: left rows, then right rows
+    ∷ (strikes W (hex "30" ++ (A ++ B))
+    gives ascii "rows 4 peak 4 pairs 0\n800 ?0=1\n? ?0=2\n900 ?0=1 ?1=11\n200 ?0=1 ?1=12\n")
+    -- a left join whose condition, ?1 same as the free ?2, errs on each merge of ?0 = 1: that row yields nothing
+    ∷ (strikes W (leftAB (hex "11 02")) gives ascii "rows 1 peak 5 pairs 4\n? ?0=2\n")
+    -- true on one merge and an error on the other: the true one, and not the row itself
+    ∷ (strikes W (leftAB (hex "60 21 00 00 0B 11 02")) gives ascii "rows 2 peak 6 pairs 4\n800 ?0=1 ?1=11\n? ?0=2\n")
+    -- false on every merge: the left rows themselves
+    ∷ (strikes W (leftAB (hex "40 70")) gives ascii "rows 2 peak 6 pairs 4\n800 ?0=1\n? ?0=2\n")
+    -- an unknown trust: projected, bound on it, an error for same
+    ∷ (strikes W (hex "51" ++ A) gives ascii "rows 2 peak 2 pairs 0\n800 ?0=1 ?1=t800\n? ?0=2 ?1=t?\n")
+    ∷ (strikes W (hex "40 01 51" ++ A) gives ascii "rows 2 peak 2 pairs 0\n800 ?0=1 ?1=t800\n? ?0=2 ?1=t?\n")
+    ∷ (strikes W (hex "40 11 01 51" ++ A) gives ascii "rows 1 peak 2 pairs 0\n800 ?0=1 ?1=t800\n")
+    -- a term and a known trust are not the same, which is no error: not of it keeps ?0 = 1
+    ∷ (strikes W (hex "40 40 10 01 51" ++ A) gives ascii "rows 1 peak 2 pairs 0\n800 ?0=1 ?1=t800\n")
+    -- less compares known trusts: 200 below 800
+    ∷ (strikes twoRecords (hex "40 33 02 10 53" ++ (B ++ (hex "52" ++ A)))
+    gives ascii "rows 1 peak 3 pairs 1\n200 ?0=1 ?1=12 ?2=t800 ?3=t200\n")
+    -- trusts below 0
+    ∷ (strikes negative (hex "30 51" ++ (A ++ B)) gives ascii "refused 7 at 1\n")
+    ∷ (strikes negative (hex "30 52" ++ (A ++ B)) gives ascii "rows 2 peak 2 pairs 0\n-1000 ?0=1 ?2=t-1000\n-5 ?0=1 ?1=11\n")
+    -- words of a row: a term, an unknown trust, a known one; a word that fits no row is zeroed too
+    ∷ (evaluated W (hex "51" ++ A) 35
+    gives 0 ∷ 0 ∷ 2 ∷ 2 ∷ 0 ∷ 1 ∷ 1050376 ∷ (replicate 14 0 ++ (1800 ∷ 2 ∷ 1050577 ∷ (replicate 14 0 ++ (2001 ∷ 0 ∷ [])))))
+    -- ceilings: a union's sum, a left join whose right side is empty
+    ∷ (ceilings W (hex "30" ++ (A ++ B)) gives 0 ∷ 0 ∷ 4 ∷ [])
+    ∷ (ceilings W (hex "20 70" ++ (B ++ hex "01 10 00 00 00 00 63 10 00 01")) gives 0 ∷ 0 ∷ 2 ∷ [])
+    -- tallies: answered, refused; a count that has stopped
+    ∷ (tallies (record { answered = 0; refused = 0 }) (hex "00" ∷ [] ∷ hex "00" ∷ []) gives 2 ∷ 1 ∷ [])
+    ∷ (tallies (record { answered = 4294967295; refused = 3 }) (hex "00" ∷ [] ∷ []) gives 4294967295 ∷ 4 ∷ [])
+    ∷ []
+
+-- each refusal, and places
+refusalCases : List Case
+refusalCases =
+    -- 1 and 2: a table that is not whole records; a facts file that is too long, though it is not whole records either
+    (checked (hex "00 00 10 00 0A 00 00 BF") [] gives 1 ∷ 0 ∷ [])
+    ∷ (strikes (replicate 65530 0) [] gives ascii "refused 2 at 0\n")
+    -- 3: a term of 0; a trust field above 2000; a nonzero trust field beside a known bit of 0
+    ∷ (checked (hex "00 00 10 00 0A 00 00 0F 6C") [] gives 3 ∷ 0 ∷ [])
+    ∷ (checked (W ++ hex "00 00 30 00 14 00 01 5F D1") [] gives 3 ∷ 4 ∷ [])
+    ∷ (checked (hex "00 00 20 00 14 00 01 50 01") [] gives 3 ∷ 0 ∷ [])
+    -- 4: the same triple twice; a lesser one; 3 before 4 at one record
+    ∷ (checked (W ++ hex "00 00 20 00 14 00 01 5F 08") [] gives 4 ∷ 4 ∷ [])
+    ∷ (checked (W ++ hex "00 00 10 00 14 00 01 6F 08") [] gives 4 ∷ 4 ∷ [])
+    ∷ (checked (W ++ hex "00 00 10 00 14 00 01 6F D1") [] gives 3 ∷ 4 ∷ [])
+    -- 5: after 1 to 4
+    ∷ (checked W (replicate 5121 0) gives 5 ∷ 0 ∷ [])
+    ∷ (checked (hex "00") (replicate 5121 0) gives 1 ∷ 0 ∷ [])
+    ∷ (rewritten (replicate 1025 0) 2 gives 5 ∷ 0 ∷ 0 ∷ 7 ∷ 7 ∷ [])
+    -- 6: a truncated pattern, a missing one; a missing operand, left and right; a missing condition
+    ∷ (checked W (hex "02 10 00 00 00 00 0A 10 00 01 10 00 02 00 00 14 00 00") gives 6 ∷ 10 ∷ [])
+    ∷ (checked W (hex "01") gives 6 ∷ 1 ∷ [])
+    ∷ (checked W (hex "10") gives 6 ∷ 1 ∷ [])
+    ∷ (checked W (hex "10" ++ A) gives 6 ∷ 11 ∷ [])
+    ∷ (checked W (hex "40") gives 6 ∷ 1 ∷ [])
+    -- 6: truncated bounds, a bound above 2000, n not 0, an unknown kind, a truncated condition, reserved bits, a term of 0
+    ∷ (checked W (hex "10 00 60 00 07") gives 6 ∷ 2 ∷ [])
+    ∷ (checked W (hex "60 7D 10 00 00") gives 6 ∷ 0 ∷ [])
+    ∷ (checked W (hex "30 00 11 00 00") gives 6 ∷ 2 ∷ [])
+    ∷ (checked W (hex "30 00 70") gives 6 ∷ 2 ∷ [])
+    ∷ (checked W (hex "40 11") gives 6 ∷ 1 ∷ [])
+    ∷ (checked W (hex "40 50 70 31 10 00") gives 6 ∷ 3 ∷ [])
+    ∷ (checked W (hex "40 21 00 00 00 00") gives 6 ∷ 1 ∷ [])
+    -- 7: two projections of one variable, at the first; a variable that a later pattern has
+    ∷ (checked W (hex "30 51" ++ (A ++ (hex "51" ++ A))) gives 7 ∷ 1 ∷ [])
+    ∷ (checked W (hex "10 52 51 00" ++ B) gives 7 ∷ 2 ∷ [])
+    -- refusals 1 to 7 leave the row space; 8 zeroes it
+    ∷ (evaluated W (hex "50" ++ A) 2 gives 7 ∷ 0 ∷ 0 ∷ 0 ∷ 0 ∷ 7 ∷ 7 ∷ [])
+    ∷ (evaluated W A 33 gives 8 ∷ 0 ∷ 0 ∷ 0 ∷ 0 ∷ replicate 33 0)
+    -- 9, with the length needed, and the output as it was; a longer one is unchanged behind the result
+    ∷ (rewritten (E A) 13 gives 9 ∷ 14 ∷ 0 ∷ replicate 13 7)
+    ∷ (rewritten (E A) 15 gives 0 ∷ 0 ∷ 14 ∷ (E A ++ (7 ∷ [])))
+    -- ceiling 0 on a refusal
+    ∷ (ceilings W (hex "50" ++ A) gives 7 ∷ 0 ∷ 0 ∷ [])
+    ∷ []
+
+cases : List Case
+cases = paperCases ++ (moreCases ++ refusalCases)
+
+-- ---- the proof
+
+-- each opens a group of what the cases compute with
+inputs : Unit {0}
+unfolding nibble nibbles inPairs hex W twoRecords lowAndHigh negative A B C E anyKnown atMost500 joinAB leftAB
+inputs = tt
+
+entries : Unit {0}
+unfolding evaluated checked ceilings rewritten fields tallies computed expected paperCases moreCases refusalCases cases
+entries = tt
+
+rows : Unit {0}
+unfolding compatible mergeCells truthOn trueOn blocksOn stands rowsOf spaceOf pairsOf bindPattern matches choices least setRows
+rows = tt
+
+tables : Unit {0}
+unfolding bigEndian recordAt factOf below factAt factsIn recordRefusal recordsRefusal tableRefusal
+tables = tt
+
+writers : Unit {0}
+unfolding patternBytes conditionBytes nodeBytes push rewriting rewriteRefusal rewrite
+writers = tt
+
+readers : Unit {0}
+unfolding readPattern readPatterns conditionStep readConditionIn readCondition nodeStep readNodeIn readNode readQuery queryNode
+readers = tt
+
+calls : Unit {0}
+unfolding projections patternVariables variablesRefusal queryRefusal check rowWords answer evaluateOver
+calls = tt
+
+figures : Unit {0}
+unfolding matching product ceilingOf ceilingIn tallied run
+figures = tt
+
+text : Unit {0}
+unfolding ascii digits decimal rowLine refusedLine countsLine report strikes
+text = tt
+
+-- every entry gives what it should
+cases-hold : map computed cases ≡ map expected cases
+unfolding inputs entries rows tables writers readers calls figures text
+cases-hold = refl

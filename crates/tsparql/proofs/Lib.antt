@@ -1,0 +1,34 @@
+-- The laws about the definitions, each file above the ones that it uses.
+-- Lists, trust and rows
+pub mod ListLaws
+pub mod TrustLaws
+pub mod RowLaws
+-- What push does to rows, space and pairs
+pub mod PushRows
+-- Query bytes: sizes, readers, reading what was written, writing what was read; what push does to them
+pub mod QuerySize
+pub mod WellFormed
+pub mod ReaderSteps
+pub mod ReadWritten
+pub mod WrittenRead
+pub mod PushQuery
+-- What the checks give
+pub mod RefusalLaws
+pub mod ChoiceLaws
+pub mod TableLaws
+pub mod QueryLaws
+-- The calls
+pub mod CeilingLaws
+pub mod SpaceLaws
+pub mod EvaluateLaws
+pub mod RewriteLaws
+pub mod CallLaws
+pub mod TallyLaws
+pub mod Demand3
+-- The published algebra
+pub mod Cardinalities
+pub mod SetOnce
+pub mod FreeVariables
+-- Text, and the table of cases
+pub mod TextLaws
+pub mod Cases

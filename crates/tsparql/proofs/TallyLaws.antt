@@ -1,0 +1,94 @@
+-- The tally over a run of evaluations: what it shows for every run, from every tally. Assumes nothing.
+use mathlib.Core.Path.{_≡_, refl}
+use mathlib.Core.Bool.{Bool, true, false, not}
+use mathlib.Core.List.{List, [], _∷_}
+use Prim.Native.Nat.{ℕ, suc, _+_, _≤_, min}
+use native.Mathlib.Omega.{arith}
+use lib.ListN.{length}
+use Rattle.tsparql.specs.Lists.{consIf, keepIf}
+use Rattle.tsparql.specs.Ceiling.{greatest}
+use Rattle.tsparql.specs.Check.{Refusal, passes}
+use Rattle.tsparql.specs.Calls.{Tally, raiseOne, tallied, Request, requestRefusal, run}
+
+-- how many requests of a run are answered, and how many refused
+abbrev pub answeredIn : List Request → ℕ
+answeredIn es = length (keepIf (λ e. passes (requestRefusal e)) es)
+
+abbrev pub refusedIn : List Request → ℕ
+refusedIn es = length (keepIf (λ e. not (passes (requestRefusal e))) es)
+
+-- every request is answered or refused
+counted-all : (es : List Request) → answeredIn es + refusedIn es ≡ length es
+counted-all [] = refl
+counted-all (e ∷ es) = go (passes (requestRefusal e)) (counted-all es)
+  where
+    go : (b : Bool) → answeredIn es + refusedIn es ≡ length es
+        → length (consIf b e (keepIf (λ d. passes (requestRefusal d)) es))
+        + length (consIf (not b) e (keepIf (λ d. not (passes (requestRefusal d))) es))
+        ≡ suc (length es)
+    go true h = omega arith
+    go false h = omega arith
+
+-- counts that have not passed the greatest value, raised by the requests of a run
+pub record Counted (a b : Tally) (es : List Request) : Type 0 where
+  pub answered-is : b .answered ≡ min (a .answered + answeredIn es) greatest
+  pub refused-is : b .refused ≡ min (a .refused + refusedIn es) greatest
+
+-- one request raises one of the two counts
+tallied-counts : (a : Tally) (e : Request) → a .answered ≤ greatest → a .refused ≤ greatest
+    → Counted a (tallied a (requestRefusal e)) (e ∷ [])
+unfolding tallied
+tallied-counts a e h k = record { answered-is = go (passes (requestRefusal e)) .0; refused-is = go (passes (requestRefusal e)) .1 }
+  where
+    go : (b : Bool) → (raiseOne b a .answered ≡ min (a .answered + length (consIf b e [])) greatest)
+        × (raiseOne b a .refused ≡ min (a .refused + length (consIf (not b) e [])) greatest)
+    go true = (omega arith, omega arith)
+    go false = (omega arith, omega arith)
+
+answeredIn-cons : (e : Request) (es : List Request) → answeredIn (e ∷ es) ≡ answeredIn (e ∷ []) + answeredIn es
+answeredIn-cons e es = go (passes (requestRefusal e))
+  where
+    go : (b : Bool) → length (consIf b e (keepIf (λ d. passes (requestRefusal d)) es)) ≡ length (consIf b e []) + answeredIn es
+    go true = omega arith
+    go false = omega arith
+
+refusedIn-cons : (e : Request) (es : List Request) → refusedIn (e ∷ es) ≡ refusedIn (e ∷ []) + refusedIn es
+refusedIn-cons e es = go (not (passes (requestRefusal e)))
+  where
+    go : (b : Bool) → length (consIf b e (keepIf (λ d. not (passes (requestRefusal d))) es)) ≡ length (consIf b e []) + refusedIn es
+    go true = omega arith
+    go false = omega arith
+
+-- for every run: each count is raised once for each of its requests, and stops at 4,294,967,295
+pub run-counts : (a : Tally) (es : List Request) → a .answered ≤ greatest → a .refused ≤ greatest → Counted a (run a es) es
+unfolding run
+run-counts a [] h k = record { answered-is = omega arith; refused-is = omega arith }
+run-counts a (e ∷ es) h k =
+    let b = tallied a (requestRefusal e) in
+    let first = tallied-counts a e h k in
+    let rest = run-counts b es (omega (arith, first .answered-is)) (omega (arith, first .refused-is)) in
+    record {
+      answered-is = omega (arith, first .answered-is, rest .answered-is, answeredIn-cons e es);
+      refused-is = omega (arith, first .refused-is, rest .refused-is, refusedIn-cons e es);
+    }
+
+abbrev pub zeroTally : Tally
+zeroTally = record { answered = 0; refused = 0 }
+
+-- begun at zero, while neither has stopped, the counts together are the evaluations, and answered is how many were answered
+pub tally-run : (es : List Request) → (run zeroTally es .answered ≡ greatest → ⊥) → (run zeroTally es .refused ≡ greatest → ⊥)
+    → (run zeroTally es .answered + run zeroTally es .refused ≡ length es) × (run zeroTally es .answered ≡ answeredIn es)
+tally-run es h k =
+    let c = run-counts zeroTally es (omega arith) (omega arith) in
+    (omega (arith, c .answered-is, c .refused-is, counted-all es), omega (arith, c .answered-is))
+
+-- a count that has stopped stays
+pub tallied-stays : (a : Tally) (r : Refusal) → (a .answered ≡ greatest → tallied a r .answered ≡ greatest)
+    × (a .refused ≡ greatest → tallied a r .refused ≡ greatest)
+unfolding tallied
+tallied-stays a r = go (passes r)
+  where
+    go : (b : Bool) → (a .answered ≡ greatest → raiseOne b a .answered ≡ greatest)
+        × (a .refused ≡ greatest → raiseOne b a .refused ≡ greatest)
+    go true = (λ h. omega arith, λ h. h)
+    go false = (λ h. h, λ h. omega arith)

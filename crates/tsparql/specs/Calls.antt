@@ -1,0 +1,80 @@
+-- The calls evaluate and ceiling as a caller sees them, and the paper's tally (document 01, "Ceiling and tally").
+-- The calls check and rewrite stand in Check and Rewrite. Assumes nothing.
+use mathlib.Core.Bool.{Bool, true, false, cond}
+use mathlib.Core.List.{List, [], _∷_}
+use Prim.Native.Nat.{ℕ, _+_, min}
+use Rattle.tsparql.specs.Table.{View, wholeTable, factsIn}
+use Rattle.tsparql.specs.PatternSets.{least}
+use Rattle.tsparql.specs.Ceiling.{greatest, productFigure, ceilingOf}
+use Rattle.tsparql.specs.Reading.{queryNode}
+use Rattle.tsparql.specs.Check.{Refusal, noRefusal, passes, check}
+use Rattle.tsparql.specs.Evaluate.{Evaluated, evaluateOver}
+
+-- ---- evaluation of a whole table by least trust
+
+-- without a tally
+abbrev pub evaluateUntallied : List ℕ → List ℕ → List ℕ → Evaluated
+evaluateUntallied t s ws = evaluateOver least (wholeTable t) t s ws
+
+-- how many evaluations were answered, and how many refused
+pub record Tally : Type 0 where
+  pub answered : ℕ
+  pub refused : ℕ
+
+-- one more, stopping at 4,294,967,295
+abbrev pub raised : ℕ → ℕ
+raised n = min (n + 1) greatest
+
+-- answered raised by 1, or else refused
+abbrev pub raiseOne : Bool → Tally → Tally
+raiseOne true a = record { answered = raised (a .answered); refused = a .refused }
+raiseOne false a = record { answered = a .answered; refused = raised (a .refused) }
+
+unfoldable pub tallied : Tally → Refusal → Tally
+tallied a r = raiseOne (passes r) a
+
+-- an evaluation's answer, and the tally that it gives back
+pub record Evaluation : Type 0 where
+  pub answer : Evaluated
+  pub tally : Tally
+
+-- the call
+abbrev pub evaluate : Tally → List ℕ → List ℕ → List ℕ → Evaluation
+evaluate a t s ws =
+    record { answer = evaluateUntallied t s ws; tally = tallied a (evaluateUntallied t s ws .refusal) }
+
+-- ---- a run of evaluations, each given the tally that the last one gave back
+
+pub record Request : Type 0 where
+  pub table : List ℕ
+  pub query : List ℕ
+  pub space : List ℕ
+
+abbrev pub requestRefusal : Request → Refusal
+requestRefusal e = evaluateUntallied (e .table) (e .query) (e .space) .refusal
+
+unfoldable pub run : Tally → List Request → Tally
+run a [] = a
+run a (e ∷ es) = run (evaluate a (e .table) (e .query) (e .space) .tally) es
+
+-- ---- ceiling
+
+pub record CeilingAnswer : Type 0 where
+  pub refusal : Refusal
+  pub ceiling : ℕ
+
+abbrev pub ceilingAnswered : ℕ → CeilingAnswer
+ceilingAnswered n = record { refusal = noRefusal; ceiling = n }
+
+abbrev pub ceilingRefused : Refusal → CeilingAnswer
+ceilingRefused r = record { refusal = r; ceiling = 0 }
+
+-- refusals as in check, with ceiling 0
+unfoldable pub ceilingIn : View → List ℕ → List ℕ → CeilingAnswer
+ceilingIn v t s =
+    cond (passes (check t s)) (ceilingAnswered (ceilingOf (productFigure (factsIn v t)) (queryNode s)))
+    (ceilingRefused (check t s))
+
+-- the call
+abbrev pub ceilingCall : List ℕ → List ℕ → CeilingAnswer
+ceilingCall t s = ceilingIn (wholeTable t) t s

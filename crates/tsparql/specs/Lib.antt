@@ -1,0 +1,18 @@
+-- The definitions of document 01, to be read in this order. Each file says what it holds and where the rest is.
+pub mod Lists
+pub mod Values
+pub mod Query
+pub mod Table
+pub mod Conditions
+pub mod Rows
+pub mod PatternSets
+pub mod Ceiling
+pub mod Push
+pub mod Writing
+pub mod Reading
+pub mod Check
+pub mod Evaluate
+pub mod Rewrite
+pub mod Calls
+pub mod Strikes
+pub mod Cardinality

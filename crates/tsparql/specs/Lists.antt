@@ -1,0 +1,38 @@
+-- Functions on lists that the definitions are made of: choosing elements by a test, lists one after the other, rising numbers.
+-- Their laws are in proofs/ListLaws.antt. Length, take, drop, set and the like are the library's (lib.ListN).
+-- Assumes nothing.
+use mathlib.Core.Bool.{Bool, true, false, _&&_}
+use mathlib.Core.List.{List, [], _∷_, _++_}
+use Prim.Native.Nat.{ℕ, zero, suc}
+
+module _ {A : Type 0} where
+  -- x in front of xs where the test passed
+  abbrev pub consIf : Bool → A → List A → List A
+  consIf true x xs = x ∷ xs
+  consIf false x xs = xs
+
+  -- the list where the test passed, and else nothing
+  abbrev pub onlyIf : Bool → List A → List A
+  onlyIf true xs = xs
+  onlyIf false xs = []
+
+  -- the elements that pass the test, in order
+  abbrev pub keepIf : (A → Bool) → List A → List A
+  keepIf p [] = []
+  keepIf p (x ∷ xs) = consIf (p x) x (keepIf p xs)
+
+  -- every element passes the test
+  abbrev pub all : (A → Bool) → List A → Bool
+  all p [] = true
+  all p (x ∷ xs) = p x && all p xs
+
+module _ {A B : Type 0} where
+  -- the lists that f makes of the elements, one after the other
+  abbrev pub concatMap : (A → List B) → List A → List B
+  concatMap f [] = []
+  concatMap f (x ∷ xs) = f x ++ concatMap f xs
+
+-- n numbers from i on, rising by 1
+abbrev pub upFrom : ℕ → ℕ → List ℕ
+upFrom i zero = []
+upFrom i (suc n) = i ∷ upFrom (suc i) n

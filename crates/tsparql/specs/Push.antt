@@ -1,0 +1,48 @@
+-- The paper's push: a bound on trust carried down from the root (document 01, "Rewrite"), the field's selection push-down.
+-- Bounds stand plus 1000. Assumes nothing.
+use mathlib.Core.Bool.{cond}
+use mathlib.Core.List.{List}
+use Prim.Native.Nat.{ℕ, max, min}
+use lib.Dec.{ltb}
+use Rattle.tsparql.specs.Lists.{keepIf}
+use Rattle.tsparql.specs.Values.{Row, trustInside}
+use Rattle.tsparql.specs.Query.{Node, patternSet, join, leftJoin, union, filter, projectTrust, ensureTrust}
+
+-- none, or (l, u)
+pub data Bound : Type 0 where
+  noBound : Bound
+  between : ℕ → ℕ → Bound
+
+-- the rows that a bound keeps
+abbrev pub keep : Bound → List Row → List Row
+keep noBound rs = rs
+keep (between l u) rs = keepIf (trustInside l u) rs
+
+-- the bound of an ensure trust node (m, w) under another bound
+abbrev pub meet : Bound → ℕ → ℕ → Bound
+meet noBound m w = between m w
+meet (between l u) m w = between (max l m) (min u w)
+
+-- what both operands of a join get, and the left one of a left join: (l, 1000)
+abbrev pub trustFloor : Bound → Bound
+trustFloor noBound = noBound
+trustFloor (between l u) = between l 2000
+
+-- the node wrapped in ensure trust; bare under none
+abbrev pub wrap : Bound → Node → Node
+wrap noBound q = q
+wrap (between l u) q = ensureTrust l u q
+
+-- wrapped only if u is below 1000
+abbrev pub wrapBelow : Bound → Node → Node
+wrapBelow noBound q = q
+wrapBelow (between l u) q = cond (ltb u 2000) (ensureTrust l u q) q
+
+unfoldable pub push : Bound → Node → Node
+push b (patternSet ps) = wrap b (patternSet ps)
+push b (join x y) = wrapBelow b (join (push (trustFloor b) x) (push (trustFloor b) y))
+push b (leftJoin c x y) = wrap b (leftJoin c (push (trustFloor b) x) (push noBound y))
+push b (union x y) = union (push b x) (push b y)
+push b (filter c x) = filter c (push b x)
+push b (projectTrust v x) = projectTrust v (push b x)
+push b (ensureTrust m w x) = push (meet b m w) x
