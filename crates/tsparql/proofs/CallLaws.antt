@@ -12,10 +12,10 @@ use Rattle.tsparql.specs.Table.{View, wholeTable, factsIn}
 use Rattle.tsparql.specs.PatternSets.{Aggregate, least, setRows}
 use Rattle.tsparql.specs.Ceiling.{greatest, product, productFigure, ceilingOf}
 use Rattle.tsparql.specs.Reading.{queryNode}
-use Rattle.tsparql.specs.Check.{passes, tableRefusal, queryRefusal, evaluateLimit, check}
+use Rattle.tsparql.specs.Check.{Passes, passes, tableRefusal, queryRefusal, evaluateLimit, check}
 use Rattle.tsparql.specs.Evaluate.{Evaluated, evaluateOver}
 use Rattle.tsparql.specs.Calls.{Tally, evaluate, ceilingAnswered, ceilingRefused, ceilingIn, ceilingCall}
-use Rattle.tsparql.proofs.RefusalLaws.{Passes, orElse-cases}
+use Rattle.tsparql.proofs.RefusalLaws.{orElse-cases}
 use Rattle.tsparql.proofs.TableLaws.{tableRefusal-cases}
 use Rattle.tsparql.proofs.QueryLaws.{query-checked, check-parts, queryRefusal-cases}
 use Rattle.tsparql.proofs.CeilingLaws.{ceiling-fits}

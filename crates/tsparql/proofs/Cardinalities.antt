@@ -12,16 +12,16 @@ use native.Mathlib.Omega.{arith}
 use lib.ListN.{length, take, set, length-append, length-map}
 use lib.Seq.{set-set, set-getD}
 use borrow.Author.Tests.{eqb-true, eq-eqb, not-true}
-use Rattle.tsparql.specs.Lists.{consIf, onlyIf, keepIf, all, concatMap}
+use Rattle.tsparql.specs.Lists.{Every, consIf, onlyIf, keepIf, all, concatMap}
 use Rattle.tsparql.specs.Values.{Trust, known, unknown, Cell, free, term, trusted, Row, cellAt, sameTrust, sameCell}
 use Rattle.tsparql.specs.Values.{compatible, merge, withTrust, trustInside}
 use Rattle.tsparql.specs.Query.{Pattern, Condition, Node, patternSet, join, leftJoin, union, filter, projectTrust, ensureTrust}
 use Rattle.tsparql.specs.Conditions.{Truth, holds, fails, errs, truthOn, trueOn, blocks, blocksOn}
 use Rattle.tsparql.specs.Rows.{merges, joinRows, stands, leftJoinRows, rowsOf}
-use Rattle.tsparql.specs.Cardinality.{sameCells, sameRow, cardinality, distinct, sumOver, countIf, isFalse, inDifference}
+use Rattle.tsparql.specs.Cardinality.{FreeAt, sameCells, sameRow, cardinality, distinct, sumOver, countIf, isFalse, inDifference}
 use Rattle.tsparql.specs.Cardinality.{joinCardinality, filterCardinality, differenceCardinality, leftJoinCardinality}
 use Rattle.tsparql.specs.Cardinality.{unionCardinality, projectCardinality, ensureCardinality, publishedCardinality}
-use Rattle.tsparql.proofs.ListLaws.{and-left, and-right, and-both, test-eq, Every, every-of, every-weaken}
+use Rattle.tsparql.proofs.ListLaws.{and-left, and-right, and-both, test-eq, every-of, every-weaken}
 use Rattle.tsparql.proofs.ListLaws.{consIf-append, keepIf-append, keepIf-keepIf, keepIf-cong, keepIf-and}
 use Rattle.tsparql.proofs.ListLaws.{keepIf-none, keepIf-map, keepIf-concatMap}
 
@@ -399,10 +399,6 @@ cardinality-published base (projectTrust v x) r = cardinality-project v (rowsOf 
 cardinality-published base (ensureTrust l u x) r = cardinality-ensure l u (rowsOf base x) r
 
 -- ---- Definition 3.1 as it is published
-
--- a variable is free in a row
-abbrev pub FreeAt : ℕ → Row → Type 0
-FreeAt v r = cellAt (r .cells) v ≡ free
 
 -- a row is known from the row with its trust at v, where v was free
 pub withTrust-injective : (v : ℕ) (x y : Row) → FreeAt v x → FreeAt v y → withTrust v x ≡ withTrust v y → x ≡ y

@@ -1,7 +1,5 @@
--- DEMAND 3, entire: a query that the rewriting accepts and what is written for it, evaluated over one table in two row spaces of one
--- length. The statement is the record Demand3, a field for each of its six parts; the theorem is `demand3`, on the calls as a caller
--- sees them, for every table, query, output, row spaces and tallies. `demand3-over` has it for any sound aggregate and any view.
--- Assumes nothing.
+-- DEMAND 3, entire. The statement is specs/Demand3.antt; the theorem is `demand3`, on the calls as a caller sees them, for every table,
+-- query, output, row spaces and tallies. `demand3-over` has it for any sound aggregate and any view. Assumes nothing.
 use mathlib.Core.Path.{_≡_, refl, sym, ap, _∙_}
 use mathlib.Core.Bool.{Bool, true, false}
 use mathlib.Core.List.{List}
@@ -11,59 +9,25 @@ use native.Mathlib.Omega.{arith}
 use borrow.Author.Tests.{eqb-true, eqb-false, ltb-true, ltb-false}
 use lib.Dec.{ltb}
 use lib.ListN.{length}
-use Rattle.tsparql.specs.Lists.{concatMap}
+use Rattle.tsparql.specs.Lists.{Every, concatMap}
 use Rattle.tsparql.specs.Query.{Node}
 use Rattle.tsparql.specs.Table.{Fact, View, wholeTable, factsIn}
-use Rattle.tsparql.specs.PatternSets.{Aggregate, least, setRows, rowsOver, spaceOver, pairsOver}
+use Rattle.tsparql.specs.PatternSets.{SoundFact, SoundAggregate, Aggregate, least, setRows, rowsOver, spaceOver, pairsOver}
 use Rattle.tsparql.specs.Push.{noBound, push}
 use Rattle.tsparql.specs.Writing.{nodeBytes}
 use Rattle.tsparql.specs.Reading.{queryNode}
-use Rattle.tsparql.specs.Check.{noRefusal, passes, tableRefusal, queryRefusal, evaluateLimit, check}
+use Rattle.tsparql.specs.Check.{Passes, noRefusal, passes, tableRefusal, queryRefusal, evaluateLimit, check}
 use Rattle.tsparql.specs.Evaluate.{rowWords, capacity, padded, Evaluated, refusedWith, answer, evaluateOver}
 use Rattle.tsparql.specs.Rewrite.{rewriteLimit, rewriting, Accepted, written}
 use Rattle.tsparql.specs.Calls.{Tally, evaluate}
-use Rattle.tsparql.proofs.ListLaws.{Every}
+use Rattle.tsparql.specs.Demand3.{AnswersNode, AnsweredAlike, Demand3}
 use Rattle.tsparql.proofs.PushRows.{rows-push, space-push-≤, pairs-push-≤}
-use Rattle.tsparql.proofs.RefusalLaws.{Passes, orElse-first, orElse-second}
+use Rattle.tsparql.proofs.RefusalLaws.{orElse-first, orElse-second}
 use Rattle.tsparql.proofs.TableLaws.{tableRefusal-cases, facts-sound}
-use Rattle.tsparql.proofs.ChoiceLaws.{SoundFact, SoundAggregate, least-sound, setRows-sound}
+use Rattle.tsparql.proofs.ChoiceLaws.{least-sound, setRows-sound}
 use Rattle.tsparql.proofs.QueryLaws.{rewriting-size-≤, queryNode-rewriting, query-passes, rewriting-passes}
 use Rattle.tsparql.proofs.RewriteLaws.{accepted-passes, accepted-written}
 use Rattle.tsparql.proofs.EvaluateLaws.{answer-fits, answer-full, answer-passes, evaluate-checked, evaluate-refused}
-
--- ---- the statement
-
--- the counts of an evaluation are those of a node, and the final words are its rows' words, then zeros
-pub record Shows (g : Aggregate) (fs : List Fact) (q : Node) (words : ℕ) (e : Evaluated) : Type 0 where
-  pub rows-are : e .rows ≡ length (rowsOver g fs q)
-  pub peak-is : e .peak ≡ spaceOver g fs q
-  pub pairs-are : e .pairs ≡ pairsOver g fs q
-  pub words-are : e .space ≡ padded (concatMap rowWords (rowsOver g fs q)) words
-
--- r is answered as e is: as many rows, the same final row space, no more peak and no more pairs
-pub record AnsweredAlike (e r : Evaluated) : Type 0 where
-  pub no-refusal : r .refusal ≡ noRefusal
-  pub same-rows : r .rows ≡ e .rows
-  pub same-space : r .space ≡ e .space
-  pub peak-≤ : r .peak ≤ e .peak
-  pub pairs-≤ : r .pairs ≤ e .pairs
-
--- e is the evaluation of the query s, r that of what is written for it, w, both over the table t in so many words
-pub record Demand3 (g : Aggregate) (v : View) (t s w : List ℕ) (words : ℕ) (e r : Evaluated) : Type 0 where
-  -- 1. w is the push of the query, as bytes, and at most 5 times as long
-  pub push-written : w ≡ nodeBytes (push noBound (queryNode s))
-  pub five-times : length w ≤ 5 * length s
-  -- 2. where the query is answered, so is w, alike
-  pub answered-alike : Passes (e .refusal) → AnsweredAlike e r
-  -- 3. and each shows the rows, the space and the pairs of the query's tree and of its push
-  pub query-shows : Passes (e .refusal) → Shows g (factsIn v t) (queryNode s) words e
-  pub written-shows : Passes (e .refusal) → Shows g (factsIn v t) (push noBound (queryNode s)) words r
-  -- 4. where the query is refused for the table, 1 to 4, w is refused with the same number and place
-  pub table-alike : 1 ≤ e .refusal .number → e .refusal .number ≤ 4 → r .refusal ≡ e .refusal
-  -- 5. where w is refused for lack of row space, so is the query
-  pub full-alike : r .refusal .number ≡ 8 → e .refusal .number ≡ 8
-  -- 6. w is never refused with 5, 6 or 7
-  pub never-for-query : 5 ≤ r .refusal .number → r .refusal .number ≤ 7 → ⊥
 
 -- ---- the check of both
 
@@ -101,11 +65,11 @@ module _ (g : Aggregate) (sound : SoundAggregate g) (fs : List Fact) (facts : Ev
         no-refusal = refl;
         same-rows = ap length same;
         same-space = ap (λ rs. padded (concatMap rowWords rs) words) same;
-        peak-≤ = space-push-≤ (setRows g fs) (setRows-sound g sound fs facts) noBound q;
-        pairs-≤ = pairs-push-≤ (setRows g fs) (setRows-sound g sound fs facts) noBound q;
+        no-more-peak = space-push-≤ (setRows g fs) (setRows-sound g sound fs facts) noBound q;
+        no-more-pairs = pairs-push-≤ (setRows g fs) (setRows-sound g sound fs facts) noBound q;
       })
 
-  shows-answer : (p : Node) → spaceOver g fs p ≤ capacity words → Shows g fs p words (answer g fs p words)
+  shows-answer : (p : Node) → spaceOver g fs p ≤ capacity words → AnswersNode g fs p words (answer g fs p words)
   shows-answer p h =
       rw (answer-fits g fs p words h)
       (record { rows-are = refl; peak-is = refl; pairs-are = refl; words-are = refl })

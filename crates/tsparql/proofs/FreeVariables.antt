@@ -11,7 +11,8 @@ use lib.Dec.{eqb, ltb}
 use lib.ListN.{length, getD, List·getD-map, length-append, replicate}
 use lib.Seq.{getD-set-other}
 use borrow.Author.Tests.{eqb-false, eq-eqb, ltb-false}
-use Rattle.tsparql.specs.Lists.{consIf, keepIf, concatMap, upFrom}
+use Rattle.tsparql.specs.Cardinality.{FreeProjections, FreeAt}
+use Rattle.tsparql.specs.Lists.{Every, consIf, keepIf, concatMap, upFrom}
 use Rattle.tsparql.specs.Values.{Cell, free, term, trusted, Row, cellAt}
 use Rattle.tsparql.specs.Values.{variables, mergeCell, compatible, mergeCells, merge, withTrust, trustInside}
 use Rattle.tsparql.specs.Query.{Pattern, Condition}
@@ -21,16 +22,14 @@ use Rattle.tsparql.specs.Rows.{merges, stands, leftRow, rowsOf}
 use Rattle.tsparql.specs.Writing.{conditionBytes, nodeBytes}
 use Rattle.tsparql.specs.Table.{Fact}
 use Rattle.tsparql.specs.PatternSets.{Aggregate, setRows, rowsOver}
-use Rattle.tsparql.specs.Check.{Projection, projectionVariable, projections, variablesOf, patternVariables}
+use Rattle.tsparql.specs.Check.{Passes, Projection, projectionVariable, projections, variablesOf, patternVariables}
 use Rattle.tsparql.specs.Check.{occurrences, clashing, clashes, firstClash, variablesRefusal}
-use Rattle.tsparql.proofs.ListLaws.{Every, every-weaken, every-append, every-consIf}
+use Rattle.tsparql.proofs.ListLaws.{every-weaken, every-append, every-consIf}
 use Rattle.tsparql.proofs.ListLaws.{every-keepIf, every-map, every-concatMap}
 use Rattle.tsparql.proofs.ListLaws.{keepIf-append, map-append}
-use Rattle.tsparql.proofs.Cardinalities.{FreeAt}
 use Rattle.tsparql.proofs.ListLaws.{every-parts}
 use Rattle.tsparql.specs.Reading.{queryNode}
 use Rattle.tsparql.specs.Check.{evaluateLimit, check}
-use Rattle.tsparql.proofs.RefusalLaws.{Passes}
 use Rattle.tsparql.proofs.QueryLaws.{check-parts, query-checked}
 use Rattle.tsparql.proofs.ChoiceLaws.{setRows-keep}
 
@@ -159,16 +158,6 @@ rowsOver-free g fs v q at d e =
     (occurrences-none v (patternVariables q) d, occurrences-none v (map projectionVariable (projections at q)) e)
 
 -- ---- the projections of an accepted query
-
--- at every project trust of the node, the variable is free in every row of the operand: the premise of Definition 3.1
-abbrev pub FreeProjections : (List Pattern → List Row) → Node → Type 0
-FreeProjections base (patternSet ps) = Unit {0}
-FreeProjections base (join x y) = FreeProjections base x × FreeProjections base y
-FreeProjections base (leftJoin c x y) = FreeProjections base x × FreeProjections base y
-FreeProjections base (union x y) = FreeProjections base x × FreeProjections base y
-FreeProjections base (filter c x) = FreeProjections base x
-FreeProjections base (projectTrust v x) = Every (FreeAt v) (rowsOf base x) × FreeProjections base x
-FreeProjections base (ensureTrust l u x) = FreeProjections base x
 
 -- v stands in no pattern, and in one projection at most
 abbrev Once : List ℕ → List Projection → ℕ → Type 0

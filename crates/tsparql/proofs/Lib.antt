@@ -7,7 +7,6 @@ pub mod RowLaws
 pub mod PushRows
 -- Query bytes: sizes, readers, reading what was written, writing what was read; what push does to them
 pub mod QuerySize
-pub mod WellFormed
 pub mod ReaderSteps
 pub mod ReadWritten
 pub mod WrittenRead

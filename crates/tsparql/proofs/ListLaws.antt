@@ -7,7 +7,7 @@ use mathlib.Core.List.{List, [], _∷_, _++_, map, append-assoc}
 use Prim.Native.Nat.{suc, _≤_, zero-le, suc-le-suc}
 use native.Mathlib.Nat.{le-refl, le-step, le-trans, add-le-add}
 use lib.ListN.{length, length-append}
-use Rattle.tsparql.specs.Lists.{consIf, onlyIf, keepIf, concatMap}
+use Rattle.tsparql.specs.Lists.{Every, consIf, onlyIf, keepIf, concatMap}
 
 -- ---- tests
 
@@ -34,10 +34,6 @@ test-eq false true f g = g refl
 test-eq false false f g = refl
 
 -- ---- what holds of every element
-
-abbrev pub Every : {A : Type 0} → (A → Type 0) → List A → Type 0
-Every P [] = Unit {0}
-Every P (x ∷ xs) = P x × Every P xs
 
 module _ {A : Type 0} where
   pub every-of : {P : A → Type 0} → ((x : A) → P x) → (xs : List A) → Every P xs

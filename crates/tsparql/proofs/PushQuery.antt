@@ -17,7 +17,7 @@ use Rattle.tsparql.proofs.ListLaws.{map-append}
 use Rattle.tsparql.proofs.PushRows.{wrap-pass, wrapBelow-pass}
 use Rattle.tsparql.proofs.QuerySize.{nodeSize, nodeSize-positive, nodeSize-join, nodeSize-leftJoin, nodeSize-union, nodeSize-filter}
 use Rattle.tsparql.proofs.QuerySize.{nodeSize-projectTrust, nodeSize-ensureTrust}
-use Rattle.tsparql.proofs.WellFormed.{NodeFormed}
+use Rattle.tsparql.specs.WellFormed.{NodeFormed}
 
 -- ---- length
 

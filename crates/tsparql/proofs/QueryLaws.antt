@@ -10,22 +10,22 @@ use native.Mathlib.Omega.{arith}
 use borrow.Author.Tests.{ltb-false, le-ltb}
 use lib.Dec.{ltb}
 use lib.ListN.{length}
-use Rattle.tsparql.specs.Lists.{keepIf}
+use Rattle.tsparql.specs.Lists.{Every, keepIf}
 use Rattle.tsparql.specs.Query.{Node, patternSet, join, leftJoin, union, filter, projectTrust, ensureTrust}
 use Rattle.tsparql.specs.Push.{Bound, noBound, push}
 use Rattle.tsparql.specs.Writing.{nodeBytes}
 use Rattle.tsparql.specs.Reading.{Read, got, fault, readQuery, foundNode, queryNode}
-use Rattle.tsparql.specs.Check.{Refusal, refuse, noRefusal, refuseIf, orElse, Projection, projectionVariable, projections}
+use Rattle.tsparql.specs.Check.{Passes, Refusal, refuse, noRefusal, refuseIf, orElse, Projection, projectionVariable, projections}
 use Rattle.tsparql.specs.Check.{patternVariables, clashing, clashes, firstClash, variablesRefusal, nodeRefusal}
 use Rattle.tsparql.specs.Check.{tableRefusal, queryRefusal, evaluateLimit, check}
 use Rattle.tsparql.specs.Rewrite.{rewriteLimit, rewriting}
-use Rattle.tsparql.proofs.ListLaws.{Every, every-append, every-keepIf, keepIf-map}
-use Rattle.tsparql.proofs.RefusalLaws.{Passes, orElse-passes, refuseIf-passes}
+use Rattle.tsparql.proofs.ListLaws.{every-append, every-keepIf, keepIf-map}
+use Rattle.tsparql.proofs.RefusalLaws.{orElse-passes, refuseIf-passes}
 use Rattle.tsparql.proofs.QuerySize.{conditionSize, nodeSize, nodeSize-positive, nodeSize-join, nodeSize-leftJoin}
 use Rattle.tsparql.proofs.QuerySize.{nodeSize-union, nodeSize-filter, nodeSize-projectTrust, nodeSize-ensureTrust}
-use Rattle.tsparql.proofs.WellFormed.{NodeFormed}
+use Rattle.tsparql.specs.WellFormed.{Bytes, NodeFormed}
 use Rattle.tsparql.proofs.ReadWritten.{readQuery-written}
-use Rattle.tsparql.proofs.WrittenRead.{Bytes, Asked, readQuery-sound}
+use Rattle.tsparql.proofs.WrittenRead.{Asked, readQuery-sound}
 use Rattle.tsparql.proofs.PushQuery.{push-size-≤, patternVariables-push, projectVariables, projections-variables}
 use Rattle.tsparql.proofs.PushQuery.{projectVariables-push, push-formed, push-push}
 

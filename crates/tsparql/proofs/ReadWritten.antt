@@ -12,7 +12,7 @@ use borrow.Author.Tests.{le-leb, lt-ltb, le-ltb, eq-eqb}
 use lib.Dec.{eqb·suc-zero}
 use lib.ListN.{length, drop, length-append}
 use lib.Seq.{drop-at}
-use Rattle.tsparql.specs.Lists.{concatMap}
+use Rattle.tsparql.specs.Lists.{Every, concatMap}
 use Rattle.tsparql.specs.Query.{Slot, aTerm, aVariable, Pattern}
 use Rattle.tsparql.specs.Query.{Condition, bound, same, isTerm, less, negation, conjunction, disjunction, always}
 use Rattle.tsparql.specs.Query.{Node, patternSet, join, leftJoin, union, filter, projectTrust, ensureTrust}
@@ -20,10 +20,9 @@ use Rattle.tsparql.specs.Writing.{firstByte, threeBytes, slotNumber, pat
 use Rattle.tsparql.specs.Reading.{Read, got, andThen, bits24, termSound, slotSound, slotOf, readPattern, readPatterns}
 use Rattle.tsparql.specs.Reading.{twoVariables, conditionStep, readCondition}
 use Rattle.tsparql.specs.Reading.{afterCondition, nodeStep, readNode, readQuery}
-use Rattle.tsparql.proofs.ListLaws.{Every}
 use Rattle.tsparql.proofs.QuerySize.{conditionSize, nodeSize}
 use Rattle.tsparql.proofs.ReaderSteps.{readCondition-step, readNode-step}
-use Rattle.tsparql.proofs.WellFormed.{TermFormed, SlotFormed, PatternFormed, ConditionFormed, NodeFormed}
+use Rattle.tsparql.specs.WellFormed.{TermFormed, SlotFormed, PatternFormed, ConditionFormed, NodeFormed}
 
 -- ---- numbers back from their bytes
 

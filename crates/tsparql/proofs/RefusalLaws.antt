@@ -4,11 +4,7 @@ use mathlib.Core.Bool.{Bool, true, false, cond}
 use Prim.Native.Nat.{ℕ, _≤_}
 use native.Mathlib.Omega.{arith}
 use borrow.Author.Tests.{eqb-true, eqb-false, eq-eqb, ne-eqb}
-use Rattle.tsparql.specs.Check.{Refusal, refuse, noRefusal, refuseIf, passes, orElse}
-
--- no refusal applies
-abbrev pub Passes : Refusal → Type 0
-Passes r = r .number ≡ 0
+use Rattle.tsparql.specs.Check.{Passes, Refusal, refuse, noRefusal, refuseIf, passes, orElse}
 
 -- the first applies
 pub orElse-first : (r s : Refusal) → (Passes r → ⊥) → orElse r s ≡ r
@@ -34,16 +30,10 @@ orElse-passes r s z = go (passes r) refl z
     go true e w = (eqb-true (r .number) 0 e, w)
     go false e w = absurd (eqb-false (r .number) 0 e w)
 
-pub passes-orElse : (r s : Refusal) → Passes r → Passes s → Passes (orElse r s)
-passes-orElse r s h k = rw (orElse-second r s h) k
-
 -- a test's refusal does not apply: the test failed
 pub refuseIf-passes : (b : Bool) (n p : ℕ) → 1 ≤ n → Passes (refuseIf b n p) → b ≡ false
 refuseIf-passes true n p h z = absurd (let e : n ≡ 0 = z in omega arith)
 refuseIf-passes false n p h z = refl
-
-pub refuseIf-false : (b : Bool) (n p : ℕ) → b ≡ false → refuseIf b n p ≡ noRefusal
-refuseIf-false b n p e = rw e
 
 -- what holds of the refusal and of none
 pub refuseIf-cases : (P : Refusal → Type 0) (b : Bool) (n p : ℕ) → (b ≡ true → P (refuse n p)) → P noRefusal → P (refuseIf b n p)

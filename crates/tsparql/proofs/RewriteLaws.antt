@@ -9,10 +9,10 @@ use borrow.Author.Tests.{ltb-false, eqb-true, eqb-false, eq-eqb, le-ltb}
 use lib.Dec.{ltb}
 use lib.ListN.{length, drop, length-append, length-drop}
 use lib.Seq.{take-append-seam}
-use Rattle.tsparql.specs.Check.{Refusal, refuseIf, passes, queryRefusal, evaluateLimit}
+use Rattle.tsparql.specs.Check.{Passes, Refusal, refuseIf, passes, queryRefusal, evaluateLimit}
 use Rattle.tsparql.specs.Rewrite.{rewriteLimit, rewriting, Rewritten, rewriteRefusal, wroteInto, wroteNothing}
 use Rattle.tsparql.specs.Rewrite.{rewrite, Accepted, written}
-use Rattle.tsparql.proofs.RefusalLaws.{Passes, orElse-passes, refuseIf-passes, refuseIf-cases}
+use Rattle.tsparql.proofs.RefusalLaws.{orElse-passes, refuseIf-passes, refuseIf-cases}
 use Rattle.tsparql.proofs.QueryLaws.{query-checked, queryRefusal-cases, rewriting-size-≤, rewriting-rewriting, rewriting-accepted}
 
 module _ (s out : List ℕ) where

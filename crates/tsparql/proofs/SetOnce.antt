@@ -11,25 +11,24 @@ use lib.Dec.{eqb}
 use lib.ListN.{length, set, length-append, length-map, length-set}
 use lib.Seq.{set-getD, getD-set-same, getD-set-other}
 use borrow.Author.Tests.{eqb-true, eqb-false}
-use Rattle.tsparql.specs.Lists.{consIf, onlyIf, keepIf, concatMap}
+use Rattle.tsparql.specs.Lists.{Every, consIf, onlyIf, keepIf, concatMap}
 use Rattle.tsparql.specs.Values.{Cell, free, term, Row, cellAt, noCells, agree, sameTrust}
 use Rattle.tsparql.specs.Query.{Slot, aTerm, aVariable, Pattern}
 use Rattle.tsparql.specs.Query.{Node, patternSet, join, leftJoin, union, filter, projectTrust, ensureTrust}
 use Rattle.tsparql.specs.Table.{Fact, wholeTable, factsIn}
 use Rattle.tsparql.specs.PatternSets.{slotFits, bindSlot, bindSubject, bindTwo, bindPattern, matches}
 use Rattle.tsparql.specs.PatternSets.{Choice, withFact, choices, Aggregate, choiceRow, setRows}
-use Rattle.tsparql.specs.Check.{tableRefusal}
+use Rattle.tsparql.specs.Check.{Passes, tableRefusal}
 use Rattle.tsparql.specs.Check.{slotVariables, variablesOf}
-use Rattle.tsparql.specs.Cardinality.{sameCells, cardinality}
-use Rattle.tsparql.proofs.ListLaws.{Every, every-of, every-weaken, every-append}
+use Rattle.tsparql.specs.Cardinality.{SetsOnce, sameCells, cardinality}
+use Rattle.tsparql.proofs.ListLaws.{every-of, every-weaken, every-append}
 use Rattle.tsparql.proofs.ListLaws.{every-concatMap}
 use Rattle.tsparql.proofs.ListLaws.{keepIf-keepIf, length-keepIf, keepIf-map, keepIf-concatMap}
 use Rattle.tsparql.proofs.Cardinalities.{sameCells-true, cardinality-map}
 use Rattle.tsparql.proofs.ListLaws.{every-parts}
 use Rattle.tsparql.specs.Reading.{queryNode}
 use Rattle.tsparql.specs.Check.{evaluateLimit, check}
-use Rattle.tsparql.proofs.WellFormed.{SlotFormed, PatternFormed, NodeFormed}
-use Rattle.tsparql.proofs.RefusalLaws.{Passes}
+use Rattle.tsparql.specs.WellFormed.{SlotFormed, PatternFormed, NodeFormed}
 use Rattle.tsparql.proofs.QueryLaws.{check-parts, query-checked}
 use Rattle.tsparql.proofs.TableLaws.{Rising, key, factsIn-rising}
 use Rattle.tsparql.proofs.ChoiceLaws.{every-slot, matches-parts, choicesBy, KeptAt, set-length, bindSlot-keeps, bindPattern-keeps}
@@ -233,16 +232,6 @@ formed-variables p h =
     slot : (s : Slot) → SlotFormed s → Every (λ v. v < 16) (slotVariables s)
     slot (aTerm a) k = tt
     slot (aVariable v) k = (k, tt)
-
--- no pattern set of the node lists a row twice
-abbrev pub SetsOnce : (List Pattern → List Row) → Node → Type 0
-SetsOnce base (patternSet ps) = (r : Row) → cardinality (base ps) r ≤ 1
-SetsOnce base (join x y) = SetsOnce base x × SetsOnce base y
-SetsOnce base (leftJoin c x y) = SetsOnce base x × SetsOnce base y
-SetsOnce base (union x y) = SetsOnce base x × SetsOnce base y
-SetsOnce base (filter c x) = SetsOnce base x
-SetsOnce base (projectTrust v x) = SetsOnce base x
-SetsOnce base (ensureTrust l u x) = SetsOnce base x
 
 formed-sets-once : (g : Aggregate) (t : List ℕ) → Passes (tableRefusal t) → (q : Node) → NodeFormed q
     → SetsOnce (setRows g (factsIn (wholeTable t) t)) q

@@ -9,16 +9,15 @@ use native.Mathlib.Omega.{arith}
 use borrow.Author.Tests.{leb-true, eqb-true, ltb-true, ltb-false, not-false}
 use lib.Dec.{eqb, leb, ltb}
 use lib.ListN.{length, drop-of-length-le}
-use Rattle.tsparql.specs.Lists.{concatMap, upFrom}
-use Rattle.tsparql.specs.Values.{known, unknown}
+use Rattle.tsparql.specs.PatternSets.{SoundFact}
+use Rattle.tsparql.specs.Lists.{Every, concatMap, upFrom}
+use Rattle.tsparql.specs.Values.{Sound, known, unknown}
 use Rattle.tsparql.specs.Table.{Fact, bigEndian, recordLength, recordAt, knownBit, trustField, trustOf, factOf, termsSound}
 use Rattle.tsparql.specs.Table.{trustSound, recordSound, below, View, wholeTable, factAt, factsIn}
-use Rattle.tsparql.specs.Check.{Refusal, refuse, noRefusal, refuseIf, orElse, recordLimit, rises, recordRefusal, recordsRefusal}
+use Rattle.tsparql.specs.Check.{Passes, Refusal, refuse, noRefusal, refuseIf, orElse, recordLimit, rises, recordRefusal, recordsRefusal}
 use Rattle.tsparql.specs.Check.{tableRefusal}
-use Rattle.tsparql.proofs.ListLaws.{and-left, and-right, Every, every-of, every-concatMap}
-use Rattle.tsparql.proofs.TrustLaws.{Sound}
-use Rattle.tsparql.proofs.ChoiceLaws.{SoundFact}
-use Rattle.tsparql.proofs.RefusalLaws.{Passes, orElse-cases, orElse-passes, refuseIf-passes, refuseIf-cases}
+use Rattle.tsparql.proofs.ListLaws.{and-left, and-right, every-of, every-concatMap}
+use Rattle.tsparql.proofs.RefusalLaws.{orElse-cases, orElse-passes, refuseIf-passes, refuseIf-cases}
 
 -- ---- records
 

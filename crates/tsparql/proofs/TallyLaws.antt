@@ -1,4 +1,5 @@
--- The tally over a run of evaluations: what it shows for every run, from every tally. Assumes nothing.
+-- The tally over a run of evaluations, for every run: from any counts that have not passed the greatest value (`run-counts`), and from
+-- zero (`tally-run`). Assumes nothing.
 use mathlib.Core.Path.{_≡_, refl}
 use mathlib.Core.Bool.{Bool, true, false, not}
 use mathlib.Core.List.{List, [], _∷_}
@@ -8,14 +9,7 @@ use lib.ListN.{length}
 use Rattle.tsparql.specs.Lists.{consIf, keepIf}
 use Rattle.tsparql.specs.Ceiling.{greatest}
 use Rattle.tsparql.specs.Check.{Refusal, passes}
-use Rattle.tsparql.specs.Calls.{Tally, raiseOne, tallied, Request, requestRefusal, run}
-
--- how many requests of a run are answered, and how many refused
-abbrev pub answeredIn : List Request → ℕ
-answeredIn es = length (keepIf (λ e. passes (requestRefusal e)) es)
-
-abbrev pub refusedIn : List Request → ℕ
-refusedIn es = length (keepIf (λ e. not (passes (requestRefusal e))) es)
+use Rattle.tsparql.specs.Calls.{Tally, raiseOne, tallied, Request, requestRefusal, answeredIn, refusedIn, zeroTally, run}
 
 -- every request is answered or refused
 counted-all : (es : List Request) → answeredIn es + refusedIn es ≡ length es
@@ -29,7 +23,7 @@ counted-all (e ∷ es) = go (passes (requestRefusal e)) (counted-all es)
     go true h = omega arith
     go false h = omega arith
 
--- counts that have not passed the greatest value, raised by the requests of a run
+-- b shows the counts of a, each raised once for each of its requests, and stopped at the greatest value
 pub record Counted (a b : Tally) (es : List Request) : Type 0 where
   pub answered-is : b .answered ≡ min (a .answered + answeredIn es) greatest
   pub refused-is : b .refused ≡ min (a .refused + refusedIn es) greatest
@@ -71,9 +65,6 @@ run-counts a (e ∷ es) h k =
       answered-is = omega (arith, first .answered-is, rest .answered-is, answeredIn-cons e es);
       refused-is = omega (arith, first .refused-is, rest .refused-is, refusedIn-cons e es);
     }
-
-abbrev pub zeroTally : Tally
-zeroTally = record { answered = 0; refused = 0 }
 
 -- begun at zero, while neither has stopped, the counts together are the evaluations, and answered is how many were answered
 pub tally-run : (es : List Request) → (run zeroTally es .answered ≡ greatest → ⊥) → (run zeroTally es .refused ≡ greatest → ⊥)

@@ -6,13 +6,8 @@ use Prim.Native.Nat.{ℕ, _≤_, min, max}
 use native.Mathlib.Omega.{arith}
 use borrow.Author.Tests.{leb-true, le-leb}
 use lib.Dec.{leb}
-use Rattle.tsparql.specs.Values.{Trust, known, unknown, lesser, inside}
+use Rattle.tsparql.specs.Values.{Sound, Trust, known, unknown, lesser, inside}
 use Rattle.tsparql.proofs.ListLaws.{and-left, and-right, and-both, test-eq}
-
--- a known trust is at most 1000
-abbrev pub Sound : Trust → Type 0
-Sound (known t) = t ≤ 2000
-Sound unknown = Unit {0}
 
 pub sound-lesser : (s t : Trust) → Sound s → Sound t → Sound (lesser s t)
 sound-lesser (known a) (known b) h k = omega arith

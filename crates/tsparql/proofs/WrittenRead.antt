@@ -14,7 +14,7 @@ use borrow.Author.Tests.{leb-true, ltb-true, ltb-false, eqb-true, eqb-false}
 use lib.Dec.{eqb, leb, ltb}
 use lib.ListN.{length, getD, take, drop, length-append, length-drop}
 use lib.Seq.{drop-cons, take-add, getD-drop, drop-drop, take-all}
-use Rattle.tsparql.specs.Lists.{concatMap}
+use Rattle.tsparql.specs.Lists.{Every, concatMap}
 use Rattle.tsparql.specs.Query.{Slot, aTerm, aVariable, Pattern}
 use Rattle.tsparql.specs.Query.{Condition, same, less, negation, conjunction, disjunction, always}
 use Rattle.tsparql.specs.Query.{Node, join, leftJoin, union, filter, projectTrust, ensureTrust}
@@ -24,15 +24,11 @@ use Rattle.tsparql.specs.Reading.{termSound, slotSound, slotOf, readPatt
 use Rattle.tsparql.specs.Reading.{twoVariables, variableTerm, conditionStep, readConditionIn, readCondition}
 use Rattle.tsparql.specs.Reading.{nPatterns, oneNode, twoNodes, afterCondition, boundedNode, nodeStep, readNodeIn, readNode}
 use Rattle.tsparql.specs.Reading.{wholeQuery, readQuery}
-use Rattle.tsparql.proofs.ListLaws.{and-left, and-right, or-right, Every}
+use Rattle.tsparql.proofs.ListLaws.{and-left, and-right, or-right}
 use Rattle.tsparql.proofs.QuerySize.{nodeSize}
-use Rattle.tsparql.proofs.WellFormed.{TermFormed, SlotFormed, PatternFormed, ConditionFormed, NodeFormed}
+use Rattle.tsparql.specs.WellFormed.{Bytes, TermFormed, SlotFormed, PatternFormed, ConditionFormed, NodeFormed}
 
 -- ---- bytes and parts
-
--- every number of the list is a byte
-abbrev pub Bytes : List ℕ → Type 0
-Bytes s = (i : ℕ) → getD s i 0 < 256
 
 -- the first n numbers of s are the bytes xs
 pub record Part (s : List ℕ) (n : ℕ) (xs : List ℕ) : Type 0 where

@@ -1,8 +1,10 @@
 -- The calls evaluate and ceiling as a caller sees them, and the paper's tally (document 01, "Ceiling and tally").
 -- The calls check and rewrite stand in Check and Rewrite. Assumes nothing.
-use mathlib.Core.Bool.{Bool, true, false, cond}
+use mathlib.Core.Bool.{Bool, true, false, not, cond}
 use mathlib.Core.List.{List, [], _∷_}
 use Prim.Native.Nat.{ℕ, _+_, min}
+use lib.ListN.{length}
+use Rattle.tsparql.specs.Lists.{keepIf}
 use Rattle.tsparql.specs.Table.{View, wholeTable, factsIn}
 use Rattle.tsparql.specs.PatternSets.{least}
 use Rattle.tsparql.specs.Ceiling.{greatest, productFigure, ceilingOf}
@@ -52,6 +54,16 @@ pub record Request : Type 0 where
 
 abbrev pub requestRefusal : Request → Refusal
 requestRefusal e = evaluateUntallied (e .table) (e .query) (e .space) .refusal
+
+-- how many requests of a list are answered, and how many refused
+abbrev pub answeredIn : List Request → ℕ
+answeredIn es = length (keepIf (λ e. passes (requestRefusal e)) es)
+
+abbrev pub refusedIn : List Request → ℕ
+refusedIn es = length (keepIf (λ e. not (passes (requestRefusal e))) es)
+
+abbrev pub zeroTally : Tally
+zeroTally = record { answered = 0; refused = 0 }
 
 unfoldable pub run : Tally → List Request → Tally
 run a [] = a

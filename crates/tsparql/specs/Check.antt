@@ -1,5 +1,6 @@
 -- The check of a table and a query (document 01, "Check"): refusals 1 to 7 and their places, in the paper's order.
 -- Where the first fault of a query is, refusal 6, is said by the readers (Reading). Assumes nothing.
+use mathlib.Core.Path.{_≡_}
 use mathlib.Core.Bool.{Bool, true, _||_, not, cond}
 use mathlib.Core.List.{List, [], _∷_, _++_, map}
 use Prim.Native.Nat.{ℕ, zero, suc, _+_, _/_, _%_}
@@ -32,6 +33,10 @@ refuseIf b n p = cond b (refuse n p) noRefusal
 -- no refusal applies
 abbrev pub passes : Refusal → Bool
 passes r = eqb (r .number) 0
+
+-- the same as a statement
+abbrev pub Passes : Refusal → Type 0
+Passes r = r .number ≡ 0
 
 -- the first of two that applies
 abbrev pub orElse : Refusal → Refusal → Refusal

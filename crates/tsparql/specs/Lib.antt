@@ -10,9 +10,11 @@ pub mod Ceiling
 pub mod Push
 pub mod Writing
 pub mod Reading
+pub mod WellFormed
 pub mod Check
 pub mod Evaluate
 pub mod Rewrite
 pub mod Calls
+pub mod Demand3
 pub mod Strikes
 pub mod Cardinality

@@ -1,4 +1,5 @@
--- Functions on lists that the definitions are made of: choosing elements by a test, lists one after the other, rising numbers.
+-- Functions on lists that the definitions are made of: choosing elements by a test, lists one after the other, what holds of every
+-- element, rising numbers.
 -- Their laws are in proofs/ListLaws.antt. Length, take, drop, set and the like are the library's (lib.ListN).
 -- Assumes nothing.
 use mathlib.Core.Bool.{Bool, true, false, _&&_}
@@ -31,6 +32,11 @@ module _ {A B : Type 0} where
   abbrev pub concatMap : (A → List B) → List A → List B
   concatMap f [] = []
   concatMap f (x ∷ xs) = f x ++ concatMap f xs
+
+-- P holds of every element
+abbrev pub Every : {A : Type 0} → (A → Type 0) → List A → Type 0
+Every P [] = Unit {0}
+Every P (x ∷ xs) = P x × Every P xs
 
 -- n numbers from i on, rising by 1
 abbrev pub upFrom : ℕ → ℕ → List ℕ

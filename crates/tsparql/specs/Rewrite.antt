@@ -1,6 +1,5 @@
 -- Rewriting (document 01, "Rewrite"): the bytes of the push, the refusals, and every byte of the output at the end.
 -- Assumes nothing.
-use mathlib.Core.Path.{_≡_}
 use mathlib.Core.Bool.{cond}
 use mathlib.Core.List.{List, _++_}
 use Prim.Native.Nat.{ℕ}
@@ -9,7 +8,7 @@ use lib.ListN.{length, take, drop}
 use Rattle.tsparql.specs.Push.{noBound, push}
 use Rattle.tsparql.specs.Writing.{nodeBytes}
 use Rattle.tsparql.specs.Reading.{queryNode}
-use Rattle.tsparql.specs.Check.{Refusal, refuseIf, noRefusal, passes, orElse, queryRefusal}
+use Rattle.tsparql.specs.Check.{Refusal, noRefusal, refuseIf, passes, Passes, orElse, queryRefusal}
 
 -- the limit of rewriting
 abbrev pub rewriteLimit : ℕ
@@ -44,7 +43,7 @@ rewrite s out = let r = rewriteRefusal s (length out) in cond (passes r) (wroteI
 
 -- the paper's accepted: the rewriting does not refuse the query
 abbrev pub Accepted : List ℕ → List ℕ → Type 0
-Accepted s out = rewrite s out .refusal .number ≡ 0
+Accepted s out = Passes (rewrite s out .refusal)
 
 -- what is written: the output up to the answered length
 abbrev pub written : List ℕ → List ℕ → List ℕ

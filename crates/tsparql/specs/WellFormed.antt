@@ -1,13 +1,13 @@
--- What a well-formed slot, pattern, condition and node is: every number is in the range that the query bytes have for it (document
--- 01, "Query bytes"). These are the trees that the readers give (proofs/WrittenRead.antt), and those that are read back from their
--- bytes (proofs/ReadWritten.antt).
+-- Well-formed trees: every number is in the range that the query bytes have for it (document 01, "Query bytes"). These are the trees
+-- that the readers give, and those that are read back from their bytes. And what it is that a list of numbers is bytes.
 -- Assumes nothing.
+use mathlib.Core.List.{List}
 use Prim.Native.Nat.{ℕ, _≤_, _<_}
-use lib.ListN.{length}
+use lib.ListN.{length, getD}
 use Rattle.tsparql.specs.Query.{Slot, aTerm, aVariable, Pattern}
 use Rattle.tsparql.specs.Query.{Condition, bound, same, isTerm, less, negation, conjunction, disjunction, always}
 use Rattle.tsparql.specs.Query.{Node, patternSet, join, leftJoin, union, filter, projectTrust, ensureTrust}
-use Rattle.tsparql.proofs.ListLaws.{Every}
+use Rattle.tsparql.specs.Lists.{Every}
 
 -- ---- slots and patterns
 
@@ -49,3 +49,9 @@ NodeFormed (union x y) = NodeFormed x × NodeFormed y
 NodeFormed (filter c x) = ConditionFormed c × NodeFormed x
 NodeFormed (projectTrust v x) = VariableFormed v × NodeFormed x
 NodeFormed (ensureTrust l u x) = (l ≤ 2000) × (u ≤ 2000) × NodeFormed x
+
+-- ---- bytes
+
+-- every number of the list is a byte
+abbrev pub Bytes : List ℕ → Type 0
+Bytes s = (i : ℕ) → getD s i 0 < 256
