@@ -13,7 +13,7 @@ use lib.ListN.{length, take, set, length-append, length-map}
 use lib.Seq.{set-set, set-getD}
 use borrow.Author.Tests.{eqb-true, eq-eqb, not-true}
 use Rattle.tsparql.specs.Lists.{Every, consIf, onlyIf, keepIf, all, concatMap}
-use Rattle.tsparql.specs.Values.{Trust, known, unknown, Cell, free, term, trusted, Row, cellAt, sameTrust, sameCell}
+use Rattle.tsparql.specs.Values.{Trust, known, unknown, Cell, free, term, trusted, Row, sameTrust, sameCell}
 use Rattle.tsparql.specs.Values.{compatible, merge, withTrust, trustInside}
 use Rattle.tsparql.specs.Query.{Pattern, Condition, Node, patternSet, join, leftJoin, union, filter, projectTrust, ensureTrust}
 use Rattle.tsparql.specs.Conditions.{Truth, holds, fails, errs, truthOn, trueOn, blocks, blocksOn}

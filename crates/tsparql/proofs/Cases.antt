@@ -1,16 +1,17 @@
 -- The worked cases of document 01 and some more, as one table about the definitions with one proof, by computation.
--- An entry has what the definitions give on its left and what the paper says on its right. Right sides are worked out by hand.
--- In three groups: cases 1 to 9; more of rows, order and trust; refusals and their places. Inputs are in hexadecimal.
+-- An entry has what the definitions give on its left and what the paper says on its right, worked out by hand (texts go through
+-- `ascii`, and one printout stands in numbers). Groups: cases 1 to 9; rows, order and trust; push; conditions; ceilings and tallies;
+-- refusals and their places. Inputs are in hexadecimal.
 -- Assumes nothing.
 use mathlib.Core.Path.{_≡_, refl}
 use mathlib.Core.Bool.{not, cond}
 use mathlib.Core.List.{List, [], _∷_, _++_, map}
-use Prim.Native.Nat.{ℕ, _+_, _*_, _-_}
+use Prim.Native.Nat.{ℕ, suc, _+_, _*_, _-_}
 use Prim.Native.Char.{code}
 use Prim.Native.String.{String, [] as ε, _∷_ as _then_}
 use lib.Dec.{eqb, ltb}
 use lib.ListN.{length, replicate}
-use Rattle.tsparql.specs.Lists.{consIf}
+use Rattle.tsparql.specs.Lists.{consIf, concatMap, upFrom}
 use Rattle.tsparql.specs.Values.{compatible, mergeCells}
 use Rattle.tsparql.specs.Conditions.{truthOn, trueOn, blocksOn}
 use Rattle.tsparql.specs.Rows.{stands, rowsOf, spaceOf, pairsOf}
@@ -21,7 +22,7 @@ use Rattle.tsparql.specs.Push.{push}
 use Rattle.tsparql.specs.Writing.{patternBytes, conditionBytes, nodeBytes}
 use Rattle.tsparql.specs.Reading.{readPattern, readPatterns, conditionStep, readConditionIn, readCondition}
 use Rattle.tsparql.specs.Reading.{nodeStep, readNodeIn, readNode, readQuery, queryNode}
-use Rattle.tsparql.specs.Check.{recordRefusal, recordsRefusal, tableRefusal, projections, patternVariables}
+use Rattle.tsparql.specs.Check.{recordRefusal, recordsRefusal, tableRefusal, trustProjections, patternVariables}
 use Rattle.tsparql.specs.Check.{variablesRefusal, queryRefusal, check}
 use Rattle.tsparql.specs.Evaluate.{trustWord, rowWords, answer, evaluateOver}
 use Rattle.tsparql.specs.Rewrite.{rewriting, rewriteRefusal, rewrite}
@@ -77,6 +78,21 @@ B = hex "01 10 00 00 00 00 0A 10 00 01"
 C : List ℕ
 C = hex "01 10 00 02 00 00 14 00 00 15"
 
+-- {?0 99 ?1}, which matches nothing; and the pattern of B fifteen times
+none : List ℕ
+none = hex "01 10 00 00 00 00 63 10 00 01"
+
+fifteen : List ℕ
+fifteen = hex "0F" ++ concatMap (λ n. hex "10 00 00 00 00 0A 10 00 01") (upFrom 0 15)
+
+-- k unions of sets of fifteen patterns, behind other nodes
+unions : List ℕ → ℕ → List ℕ
+unions front k = front ++ (replicate k 0x30 ++ concatMap (λ n. fifteen) (upFrom 0 (suc k)))
+
+-- 1,024 bytes: a filter, 16 bounds, 6 unions
+longest : List ℕ
+longest = unions (hex "40 70" ++ concatMap (λ n. hex "60 00 07 D0") (upFrom 0 16)) 6
+
 -- the bound 500 to 1000 on a query
 E : List ℕ → List ℕ
 E q = hex "60 5D C7 D0" ++ q
@@ -100,7 +116,7 @@ leftAB c = hex "20" ++ (c ++ (A ++ B))
 -- an evaluation in so many words, all 7 at first: number, place, rows, peak, pairs, and the row space at the end
 evaluated : List ℕ → List ℕ → ℕ → List ℕ
 evaluated t q words = let e = evaluateUntallied t q (replicate words 7) in
-    e .refusal .number ∷ e .refusal .place ∷ e .rows ∷ e .peak ∷ e .pairs ∷ e .space
+    e .refusal .number ∷ e .refusal .place ∷ e .rows ∷ e .peak ∷ e .pairs ∷ e .rowSpace
 
 -- number and place of the check
 checked : List ℕ → List ℕ → List ℕ
@@ -120,19 +136,26 @@ fields t = let f = factOf (recordAt t 0) in f .subject ∷ f .predicate ∷ f .o
 
 -- answered and refused after evaluations of queries over W, from a tally
 tallies : Tally → List (List ℕ) → List ℕ
-tallies a qs = let b = run a (map (λ q. record { table = W; query = q; space = replicate 17 7 }) qs) in
+tallies a qs = let b = run a (map (λ q. record { table = W; query = q; rowSpace = replicate 17 7 }) qs) in
     b .answered ∷ b .refused ∷ []
+
+-- no row of A, and both, under a filter
+noRows : List ℕ
+noRows = ascii "rows 0 peak 2 pairs 0\n"
+
+bothRows : List ℕ
+bothRows = ascii "rows 2 peak 2 pairs 0\n800 ?0=1\n? ?0=2\n"
 
 -- ---- the table
 
 infix 10 _gives_
-data Case : Type 0 where
+pub data Case : Type 0 where
   _gives_ : List ℕ → List ℕ → Case
 
-computed : Case → List ℕ
+pub computed : Case → List ℕ
 computed (x gives y) = x
 
-expected : Case → List ℕ
+pub expected : Case → List ℕ
 expected (x gives y) = y
 
 -- cases 1 to 9 of the paper
@@ -171,6 +194,8 @@ moreCases =
     -- the paper's record: (1, 10, 11) with trust 900; and the last of W, whose trust is unknown
     (fields (hex "00 00 10 00 0A 00 00 BF 6C") gives 1 ∷ 10 ∷ 11 ∷ 1900 ∷ [])
     ∷ (fields (hex "00 00 20 00 14 00 01 50 00") gives 2 ∷ 20 ∷ 21 ∷ 2001 ∷ [])
+    -- the greatest trust, 1000, is sound
+    ∷ (checked (hex "00 00 10 00 0A 00 00 BF D0") (hex "00") gives 0 ∷ 0 ∷ [])
     -- shortcut: E into the right of a left join would list ?0 = 1 bare
     ∷ (strikes twoRecords (E (leftAB (hex "70"))) gives ascii "rows 0 peak 3 pairs 1\n")
     ∷ (strikes twoRecords (rewriting (E (leftAB (hex "70")))) gives ascii "rows 0 peak 3 pairs 1\n")
@@ -212,17 +237,68 @@ moreCases =
     ∷ (strikes twoRecords (hex "40 33 02 10 53" ++ (B ++ (hex "52" ++ A)))
     gives ascii "rows 1 peak 3 pairs 1\n200 ?0=1 ?1=12 ?2=t800 ?3=t200\n")
     -- trusts below 0
-    ∷ (strikes negative (hex "30 51" ++ (A ++ B)) gives ascii "refused 7 at 1\n")
     ∷ (strikes negative (hex "30 52" ++ (A ++ B)) gives ascii "rows 2 peak 2 pairs 0\n-1000 ?0=1 ?2=t-1000\n-5 ?0=1 ?1=11\n")
     -- words of a row: a term, an unknown trust, a known one; a word that fits no row is zeroed too
     ∷ (evaluated W (hex "51" ++ A) 35
     gives 0 ∷ 0 ∷ 2 ∷ 2 ∷ 0 ∷ 1 ∷ 1050376 ∷ (replicate 14 0 ++ (1800 ∷ 2 ∷ 1050577 ∷ (replicate 14 0 ++ (2001 ∷ 0 ∷ [])))))
-    -- ceilings: a union's sum, a left join whose right side is empty
+    -- a printout in numbers: rows 1 peak 1 pairs 0, and 1000
+    ∷ (strikes W (hex "00")
+    gives hex "72 6F 77 73 20 31 20 70 65 61 6B 20 31 20 70 61 69 72 73 20 30 0A 31 30 30 30 0A")
+    -- l above u keeps no row
+    ∷ (strikes W (hex "60 7D 05 DC" ++ A) gives ascii "rows 0 peak 2 pairs 0\n")
+    ∷ []
+
+-- what push does to each kind of node
+pushCases : List Case
+pushCases =
+    (rewriting (E (hex "30" ++ (A ++ B))) gives hex "30" ++ (E A ++ E B))
+    ∷ (rewriting (E (hex "40 00" ++ A)) gives hex "40 00" ++ E A)
+    ∷ (rewriting (E (hex "52" ++ A)) gives hex "52" ++ E A)
+    ∷ (rewriting (E (hex "00")) gives E (hex "00"))
+    -- a left join is wrapped also where u is below 1000
+    ∷ (rewriting (atMost500 (leftAB (hex "70"))) gives atMost500 (hex "20 70" ++ (anyKnown A ++ B)))
+    -- under none nothing changes
+    ∷ (rewriting joinAB gives joinAB)
+    ∷ (rewriting (leftAB (hex "70")) gives leftAB (hex "70"))
+    -- a bound under a join stays there
+    ∷ (rewriting (hex "10" ++ (E A ++ B)) gives hex "10" ++ (E A ++ B))
+    ∷ []
+
+-- the truths of conditions, as filters: on A's rows ?0 is a term and ?1, ?2 are free; in 51 A ?1 is 800, then unknown
+conditionCases : List Case
+conditionCases =
+    -- bound on a free cell is false
+    (strikes W (hex "40 02" ++ A) gives noRows)
+    ∷ (strikes W (hex "40 40 02" ++ A) gives bothRows)
+    -- not of an error is an error; true and an error is an error; false and an error is false
+    ∷ (strikes W (hex "40 40 11 02" ++ A) gives noRows)
+    ∷ (strikes W (hex "40 50 70 11 02" ++ A) gives noRows)
+    ∷ (strikes W (hex "40 40 50 40 70 11 02" ++ A) gives bothRows)
+    -- true or an error is true; false or an error is an error
+    ∷ (strikes W (hex "40 60 11 02 70" ++ A) gives bothRows)
+    ∷ (strikes W (hex "40 60 11 02 40 70" ++ A) gives noRows)
+    -- is-term: on a term, on a free cell an error, on a known trust false, on an unknown one an error
+    ∷ (strikes W (hex "40 20 00 00 02" ++ A) gives ascii "rows 1 peak 2 pairs 0\n? ?0=2\n")
+    ∷ (strikes W (hex "40 40 21 00 00 02" ++ A) gives noRows)
+    ∷ (strikes W (hex "40 40 21 00 00 02 51" ++ A) gives ascii "rows 1 peak 2 pairs 0\n800 ?0=1 ?1=t800\n")
+    -- less: on terms an error, of equal trusts false, on an unknown trust an error
+    ∷ (strikes W (hex "40 40 30 00" ++ A) gives noRows)
+    ∷ (strikes W (hex "40 40 31 01 51" ++ A) gives ascii "rows 1 peak 2 pairs 0\n800 ?0=1 ?1=t800\n")
+    ∷ []
+
+-- ceilings and tallies
+figureCases : List Case
+figureCases =
+    -- ceilings: the empty set, a union's sum, a left join whose right side is empty; a product that is cut, and beside a 0
+    (ceilings W (hex "00") gives 0 ∷ 0 ∷ 1 ∷ [])
     ∷ (ceilings W (hex "30" ++ (A ++ B)) gives 0 ∷ 0 ∷ 4 ∷ [])
-    ∷ (ceilings W (hex "20 70" ++ (B ++ hex "01 10 00 00 00 00 63 10 00 01")) gives 0 ∷ 0 ∷ 2 ∷ [])
+    ∷ (ceilings W (hex "20 70" ++ (B ++ none)) gives 0 ∷ 0 ∷ 2 ∷ [])
+    ∷ (ceilings W (hex "10 10" ++ (fifteen ++ (fifteen ++ fifteen))) gives 0 ∷ 0 ∷ 4294967295 ∷ [])
+    ∷ (ceilings W (hex "10 10 10" ++ (fifteen ++ (fifteen ++ (fifteen ++ none)))) gives 0 ∷ 0 ∷ 0 ∷ [])
     -- tallies: answered, refused; a count that has stopped
     ∷ (tallies (record { answered = 0; refused = 0 }) (hex "00" ∷ [] ∷ hex "00" ∷ []) gives 2 ∷ 1 ∷ [])
     ∷ (tallies (record { answered = 4294967295; refused = 3 }) (hex "00" ∷ [] ∷ []) gives 4294967295 ∷ 4 ∷ [])
+    ∷ (tallies (record { answered = 3; refused = 4294967295 }) ([] ∷ []) gives 3 ∷ 4294967295 ∷ [])
     ∷ []
 
 -- each refusal, and places
@@ -239,7 +315,8 @@ refusalCases =
     ∷ (checked (W ++ hex "00 00 20 00 14 00 01 5F 08") [] gives 4 ∷ 4 ∷ [])
     ∷ (checked (W ++ hex "00 00 10 00 14 00 01 6F 08") [] gives 4 ∷ 4 ∷ [])
     ∷ (checked (W ++ hex "00 00 10 00 14 00 01 6F D1") [] gives 3 ∷ 4 ∷ [])
-    -- 5: after 1 to 4
+    -- 5: after 1 to 4; not at rewriting's limit
+    ∷ (length longest ∷ rewritten longest 0 gives 1024 ∷ 9 ∷ 988 ∷ 0 ∷ [])
     ∷ (checked W (replicate 5121 0) gives 5 ∷ 0 ∷ [])
     ∷ (checked (hex "00") (replicate 5121 0) gives 1 ∷ 0 ∷ [])
     ∷ (rewritten (replicate 1025 0) 2 gives 5 ∷ 0 ∷ 0 ∷ 7 ∷ 7 ∷ [])
@@ -260,29 +337,35 @@ refusalCases =
     -- 7: two projections of one variable, at the first; a variable that a later pattern has
     ∷ (checked W (hex "30 51" ++ (A ++ (hex "51" ++ A))) gives 7 ∷ 1 ∷ [])
     ∷ (checked W (hex "10 52 51 00" ++ B) gives 7 ∷ 2 ∷ [])
+    ∷ (checked W (hex "30 51" ++ (A ++ B)) gives 7 ∷ 1 ∷ [])
     -- refusals 1 to 7 leave the row space; 8 zeroes it
     ∷ (evaluated W (hex "50" ++ A) 2 gives 7 ∷ 0 ∷ 0 ∷ 0 ∷ 0 ∷ 7 ∷ 7 ∷ [])
     ∷ (evaluated W A 33 gives 8 ∷ 0 ∷ 0 ∷ 0 ∷ 0 ∷ replicate 33 0)
     -- 9, with the length needed, and the output as it was; a longer one is unchanged behind the result
     ∷ (rewritten (E A) 13 gives 9 ∷ 14 ∷ 0 ∷ replicate 13 7)
+    ∷ (rewritten (E A) 14 gives 0 ∷ 0 ∷ 14 ∷ E A)
     ∷ (rewritten (E A) 15 gives 0 ∷ 0 ∷ 14 ∷ (E A ++ (7 ∷ [])))
     -- ceiling 0 on a refusal
     ∷ (ceilings W (hex "50" ++ A) gives 7 ∷ 0 ∷ 0 ∷ [])
     ∷ []
 
-cases : List Case
-cases = paperCases ++ (moreCases ++ refusalCases)
+pub cases : List Case
+cases = paperCases ++ (moreCases ++ (pushCases ++ (conditionCases ++ (figureCases ++ refusalCases))))
 
 -- ---- the proof
 
 -- each opens a group of what the cases compute with
 inputs : Unit {0}
-unfolding nibble nibbles inPairs hex W twoRecords lowAndHigh negative A B C E anyKnown atMost500 joinAB leftAB
+unfolding nibble nibbles inPairs hex W twoRecords lowAndHigh negative A B C none fifteen unions longest E anyKnown atMost500 joinAB leftAB
 inputs = tt
 
 entries : Unit {0}
-unfolding evaluated checked ceilings rewritten fields tallies computed expected paperCases moreCases refusalCases cases
+unfolding evaluated checked ceilings rewritten fields tallies noRows bothRows computed expected
 entries = tt
+
+groups : Unit {0}
+unfolding paperCases moreCases pushCases conditionCases figureCases refusalCases cases
+groups = tt
 
 rows : Unit {0}
 unfolding compatible mergeCells truthOn trueOn blocksOn stands rowsOf spaceOf pairsOf bindPattern matches choices least setRows
@@ -301,7 +384,7 @@ unfolding readPattern readPatterns conditionStep readConditionIn readCondition n
 readers = tt
 
 calls : Unit {0}
-unfolding projections patternVariables variablesRefusal queryRefusal check rowWords answer evaluateOver
+unfolding trustProjections patternVariables variablesRefusal queryRefusal check rowWords answer evaluateOver
 calls = tt
 
 figures : Unit {0}
@@ -313,6 +396,6 @@ unfolding ascii digits decimal rowLine refusedLine countsLine report strikes
 text = tt
 
 -- every entry gives what it should
-cases-hold : map computed cases ≡ map expected cases
-unfolding inputs entries rows tables writers readers calls figures text
+pub cases-hold : map computed cases ≡ map expected cases
+unfolding inputs entries groups rows tables writers readers calls figures text
 cases-hold = refl

@@ -3,18 +3,16 @@
 use mathlib.Core.Path.{_≡_, refl, sym, ap, _∙_}
 use mathlib.Core.Bool.{Bool, true, false}
 use mathlib.Core.List.{List}
-use Prim.Native.Nat.{ℕ, _*_, _≤_, zero-le}
+use Prim.Native.Nat.{ℕ, _≤_, zero-le}
 use native.Mathlib.Nat.{le-trans}
 use native.Mathlib.Omega.{arith}
-use borrow.Author.Tests.{eqb-true, eqb-false, ltb-true, ltb-false}
-use lib.Dec.{ltb}
+use borrow.Author.Tests.{eqb-true, eqb-false}
 use lib.ListN.{length}
 use Rattle.tsparql.specs.Lists.{Every, concatMap}
 use Rattle.tsparql.specs.Query.{Node}
 use Rattle.tsparql.specs.Table.{Fact, View, wholeTable, factsIn}
-use Rattle.tsparql.specs.PatternSets.{SoundFact, SoundAggregate, Aggregate, least, setRows, rowsOver, spaceOver, pairsOver}
+use Rattle.tsparql.specs.PatternSets.{SoundFact, SoundAggregate, Aggregate, least, setRows, spaceOver}
 use Rattle.tsparql.specs.Push.{noBound, push}
-use Rattle.tsparql.specs.Writing.{nodeBytes}
 use Rattle.tsparql.specs.Reading.{queryNode}
 use Rattle.tsparql.specs.Check.{Passes, noRefusal, passes, tableRefusal, queryRefusal, evaluateLimit, check}
 use Rattle.tsparql.specs.Evaluate.{rowWords, capacity, padded, Evaluated, refusedWith, answer, evaluateOver}
@@ -27,7 +25,7 @@ use Rattle.tsparql.proofs.TableLaws.{tableRefusal-cases, facts-sound}
 use Rattle.tsparql.proofs.ChoiceLaws.{least-sound, setRows-sound}
 use Rattle.tsparql.proofs.QueryLaws.{rewriting-size-≤, queryNode-rewriting, query-passes, rewriting-passes}
 use Rattle.tsparql.proofs.RewriteLaws.{accepted-passes, accepted-written}
-use Rattle.tsparql.proofs.EvaluateLaws.{answer-fits, answer-full, answer-passes, evaluate-checked, evaluate-refused}
+use Rattle.tsparql.proofs.EvaluateLaws.{answer-fits, answer-cases, answer-passes, evaluate-checked, evaluate-refused}
 
 -- ---- the check of both
 
@@ -76,23 +74,15 @@ module _ (g : Aggregate) (sound : SoundAggregate g) (fs : List Fact) (facts : Ev
 
   -- the push is full only where the query is
   answers-full : r′ .refusal .number ≡ 8 → e′ .refusal .number ≡ 8
-  answers-full z = go (ltb (capacity words) (spaceOver g fs q)) refl
-    where
-      go : (b : Bool) → ltb (capacity words) (spaceOver g fs q) ≡ b → e′ .refusal .number ≡ 8
-      go true f = rw (answer-full g fs q words (ltb-true (capacity words) (spaceOver g fs q) f))
-      go false f =
-          let fit = answer-fits g fs q words (ltb-false (capacity words) (spaceOver g fs q) f) in
-          let none = answers-alike (ap (λ a. a .refusal .number) fit) .no-refusal in
-          absurd (let y : _≡_ {A = ℕ} 0 8 = sym (ap (λ a. a .number) none) ∙ z in omega arith)
+  answers-full z =
+      answer-cases g fs q words (λ e. (Passes (e .refusal) → AnsweredAlike e r′) → e .refusal .number ≡ 8)
+      (λ l alike. absurd (let y : _≡_ {A = ℕ} 0 8 = sym (ap (λ a. a .number) (alike refl .no-refusal)) ∙ z in omega arith))
+      (λ l alike. refl) answers-alike
 
 -- an answer is refused with 8, or not at all
 answer-numbers : (P : ℕ → Type 0) (g : Aggregate) (fs : List Fact) (q : Node) (words : ℕ) → P 0 → P 8
     → P (answer g fs q words .refusal .number)
-answer-numbers P g fs q words none eight = go (ltb (capacity words) (spaceOver g fs q)) refl
-  where
-    go : (b : Bool) → ltb (capacity words) (spaceOver g fs q) ≡ b → P (answer g fs q words .refusal .number)
-    go true e = rw (answer-full g fs q words (ltb-true (capacity words) (spaceOver g fs q) e)) eight
-    go false e = rw (answer-fits g fs q words (ltb-false (capacity words) (spaceOver g fs q) e)) none
+answer-numbers P g fs q words none eight = answer-cases g fs q words (λ e. P (e .refusal .number)) (λ l. none) (λ l. eight)
 
 -- ---- the theorem
 
@@ -172,5 +162,5 @@ demand3-over g sound v t s out ws ws′ a same =
 -- on the calls, for every table, query and output, every two row spaces of one length and any two tallies
 pub demand3 : (t s out ws ws′ : List ℕ) (a a′ : Tally) → Accepted s out → length ws ≡ length ws′
     → Demand3 least (wholeTable t) t s (written s out) (length ws)
-    (evaluate a t s ws .answer) (evaluate a′ t (written s out) ws′ .answer)
+    (evaluate a t s ws .evaluated) (evaluate a′ t (written s out) ws′ .evaluated)
 demand3 t s out ws ws′ a a′ accepted same = demand3-over least least-sound (wholeTable t) t s out ws ws′ accepted same

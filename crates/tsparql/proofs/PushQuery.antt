@@ -10,9 +10,9 @@ use borrow.Author.Tests.{ltb-false, le-ltb}
 use lib.Dec.{ltb}
 use lib.ListN.{length}
 use Rattle.tsparql.specs.Query.{Node, patternSet, join, leftJoin, union, filter, projectTrust, ensureTrust}
-use Rattle.tsparql.specs.Push.{Bound, noBound, between, meet, trustFloor, wrap, wrapBelow, push}
+use Rattle.tsparql.specs.Push.{TrustBound, noBound, between, meet, trustFloor, wrap, wrapBelow, push}
 use Rattle.tsparql.specs.Writing.{conditionBytes, nodeBytes}
-use Rattle.tsparql.specs.Check.{Projection, projectionVariable, projections, patternVariables}
+use Rattle.tsparql.specs.Check.{TrustProjection, projectedVariable, trustProjections, patternVariables}
 use Rattle.tsparql.proofs.ListLaws.{map-append}
 use Rattle.tsparql.proofs.PushRows.{wrap-pass, wrapBelow-pass}
 use Rattle.tsparql.proofs.QuerySize.{nodeSize, nodeSize-positive, nodeSize-join, nodeSize-leftJoin, nodeSize-union, nodeSize-filter}
@@ -21,11 +21,11 @@ use Rattle.tsparql.specs.WellFormed.{NodeFormed}
 
 -- ---- length
 
-wrap-size : (b : Bound) (q : Node) → nodeSize (wrap b q) ≤ 4 + nodeSize q
+wrap-size : (b : TrustBound) (q : Node) → nodeSize (wrap b q) ≤ 4 + nodeSize q
 wrap-size noBound q = omega arith
 wrap-size (between l u) q = omega (arith, nodeSize-ensureTrust l u q)
 
-wrapBelow-size : (b : Bound) (q : Node) → nodeSize (wrapBelow b q) ≤ 4 + nodeSize q
+wrapBelow-size : (b : TrustBound) (q : Node) → nodeSize (wrapBelow b q) ≤ 4 + nodeSize q
 wrapBelow-size noBound q = omega arith
 wrapBelow-size (between l u) q = go (ltb u 2000)
   where
@@ -34,7 +34,7 @@ wrapBelow-size (between l u) q = go (ltb u 2000)
     go false = omega arith
 
 -- a push is at most 5 times as long
-pub push-size-≤ : (b : Bound) (q : Node) → nodeSize (push b q) ≤ 5 * nodeSize q
+pub push-size-≤ : (b : TrustBound) (q : Node) → nodeSize (push b q) ≤ 5 * nodeSize q
 unfolding push
 push-size-≤ b (patternSet ps) = omega (arith, wrap-size b (patternSet ps), nodeSize-positive (patternSet ps))
 push-size-≤ b (join x y) =
@@ -69,7 +69,7 @@ push-size-≤ b (ensureTrust m w x) = omega (arith, nodeSize-ensureTrust m w x, 
 -- ---- variables
 
 -- the variables of patterns stay
-pub patternVariables-push : (b : Bound) (q : Node) → patternVariables (push b q) ≡ patternVariables q
+pub patternVariables-push : (b : TrustBound) (q : Node) → patternVariables (push b q) ≡ patternVariables q
 unfolding patternVariables push
 patternVariables-push b (patternSet ps) = wrap-pass patternVariables (λ l u q. refl) b (patternSet ps)
 patternVariables-push b (join x y) =
@@ -93,34 +93,35 @@ projectVariables (filter c x) = projectVariables x
 projectVariables (projectTrust v x) = v ∷ projectVariables x
 projectVariables (ensureTrust l u x) = projectVariables x
 
-abbrev projected : List Projection → List ℕ
-projected ps = map projectionVariable ps
+abbrev pub projected : List TrustProjection → List ℕ
+projected ps = map projectedVariable ps
 
 -- two operands, one behind the other
-projected-two : (i j : ℕ) (x y : Node) → projected (projections i x) ≡ projectVariables x → projected (projections j y) ≡ projectVariables y
-    → projected (projections i x ++ projections j y) ≡ projectVariables x ++ projectVariables y
-projected-two i j x y d e = map-append projectionVariable (projections i x) (projections j y) ∙ rw (d, e)
+projected-two : (i j : ℕ) (x y : Node) → projected (trustProjections i x) ≡ projectVariables x
+    → projected (trustProjections j y) ≡ projectVariables y
+    → projected (trustProjections i x ++ trustProjections j y) ≡ projectVariables x ++ projectVariables y
+projected-two i j x y d e = map-append projectedVariable (trustProjections i x) (trustProjections j y) ∙ rw (d, e)
 
 -- wherever the node stands
-pub projections-variables : (at : ℕ) (q : Node) → projected (projections at q) ≡ projectVariables q
-unfolding projections projectVariables
-projections-variables at (patternSet ps) = refl
-projections-variables at (join x y) =
+pub trustProjections-variables : (at : ℕ) (q : Node) → projected (trustProjections at q) ≡ projectVariables q
+unfolding trustProjections projectVariables
+trustProjections-variables at (patternSet ps) = refl
+trustProjections-variables at (join x y) =
     let next = at + 1 + length (nodeBytes x) in
-    projected-two (at + 1) next x y (projections-variables (at + 1) x) (projections-variables next y)
-projections-variables at (leftJoin c x y) =
+    projected-two (at + 1) next x y (trustProjections-variables (at + 1) x) (trustProjections-variables next y)
+trustProjections-variables at (leftJoin c x y) =
     let first = at + 1 + length (conditionBytes c) in
     let next = first + length (nodeBytes x) in
-    projected-two first next x y (projections-variables first x) (projections-variables next y)
-projections-variables at (union x y) =
+    projected-two first next x y (trustProjections-variables first x) (trustProjections-variables next y)
+trustProjections-variables at (union x y) =
     let next = at + 1 + length (nodeBytes x) in
-    projected-two (at + 1) next x y (projections-variables (at + 1) x) (projections-variables next y)
-projections-variables at (filter c x) = projections-variables (at + 1 + length (conditionBytes c)) x
-projections-variables at (projectTrust v x) = ap (λ (r : List ℕ). v ∷ r) (projections-variables (at + 1) x)
-projections-variables at (ensureTrust l u x) = projections-variables (at + 4) x
+    projected-two (at + 1) next x y (trustProjections-variables (at + 1) x) (trustProjections-variables next y)
+trustProjections-variables at (filter c x) = trustProjections-variables (at + 1 + length (conditionBytes c)) x
+trustProjections-variables at (projectTrust v x) = ap (λ (r : List ℕ). v ∷ r) (trustProjections-variables (at + 1) x)
+trustProjections-variables at (ensureTrust l u x) = trustProjections-variables (at + 4) x
 
 -- the variables of project trust stay
-pub projectVariables-push : (b : Bound) (q : Node) → projectVariables (push b q) ≡ projectVariables q
+pub projectVariables-push : (b : TrustBound) (q : Node) → projectVariables (push b q) ≡ projectVariables q
 unfolding projectVariables push
 projectVariables-push b (patternSet ps) = wrap-pass projectVariables (λ l u q. refl) b (patternSet ps)
 projectVariables-push b (join x y) =
@@ -136,23 +137,23 @@ projectVariables-push b (ensureTrust m w x) = projectVariables-push (meet b m w)
 
 -- ---- well-formed
 
-abbrev pub BoundFormed : Bound → Type 0
+abbrev pub BoundFormed : TrustBound → Type 0
 BoundFormed noBound = Unit {0}
 BoundFormed (between l u) = (l ≤ 2000) × (u ≤ 2000)
 
-trustFloor-formed : (b : Bound) → BoundFormed b → BoundFormed (trustFloor b)
+trustFloor-formed : (b : TrustBound) → BoundFormed b → BoundFormed (trustFloor b)
 trustFloor-formed noBound h = tt
 trustFloor-formed (between l u) h = (h .0, le-refl 2000)
 
-meet-formed : (b : Bound) (m w : ℕ) → BoundFormed b → m ≤ 2000 → w ≤ 2000 → BoundFormed (meet b m w)
+meet-formed : (b : TrustBound) (m w : ℕ) → BoundFormed b → m ≤ 2000 → w ≤ 2000 → BoundFormed (meet b m w)
 meet-formed noBound m w h i j = (i, j)
 meet-formed (between l u) m w h i j = (omega arith, omega arith)
 
-wrap-formed : (b : Bound) (q : Node) → BoundFormed b → NodeFormed q → NodeFormed (wrap b q)
+wrap-formed : (b : TrustBound) (q : Node) → BoundFormed b → NodeFormed q → NodeFormed (wrap b q)
 wrap-formed noBound q h f = f
 wrap-formed (between l u) q h f = (h .0, h .1, f)
 
-wrapBelow-formed : (b : Bound) (q : Node) → BoundFormed b → NodeFormed q → NodeFormed (wrapBelow b q)
+wrapBelow-formed : (b : TrustBound) (q : Node) → BoundFormed b → NodeFormed q → NodeFormed (wrapBelow b q)
 wrapBelow-formed noBound q h f = f
 wrapBelow-formed (between l u) q h f = go (ltb u 2000)
   where
@@ -161,7 +162,7 @@ wrapBelow-formed (between l u) q h f = go (ltb u 2000)
     go false = f
 
 -- a push of a well-formed node is well-formed
-pub push-formed : (b : Bound) (q : Node) → BoundFormed b → NodeFormed q → NodeFormed (push b q)
+pub push-formed : (b : TrustBound) (q : Node) → BoundFormed b → NodeFormed q → NodeFormed (push b q)
 unfolding push
 push-formed b (patternSet ps) h f = wrap-formed b (patternSet ps) h f
 push-formed b (join x y) h f =
@@ -179,41 +180,41 @@ push-formed b (ensureTrust m w x) h f = push-formed (meet b m w) x (meet-formed 
 -- ---- pushing again
 
 -- b asks no more than d
-abbrev Weaker : Bound → Bound → Type 0
+abbrev pub Weaker : TrustBound → TrustBound → Type 0
 Weaker noBound d = Unit {0}
 Weaker (between l u) noBound = ⊥
 Weaker (between l u) (between m w) = (l ≤ m) × (w ≤ u)
 
-weaker-refl : (b : Bound) → Weaker b b
+weaker-refl : (b : TrustBound) → Weaker b b
 weaker-refl noBound = tt
 weaker-refl (between l u) = (le-refl l, le-refl u)
 
 -- a weaker bound changes no bound
-meet-weaker : (b : Bound) (m w : ℕ) → Weaker b (between m w) → meet b m w ≡ between m w
+meet-weaker : (b : TrustBound) (m w : ℕ) → Weaker b (between m w) → meet b m w ≡ between m w
 meet-weaker noBound m w h = refl
 meet-weaker (between l u) m w h = rw (max-eq-right (h .0), min-eq-right (h .1))
 
-weaker-meet : (b d : Bound) (m w : ℕ) → Weaker b d → Weaker b (meet d m w)
+weaker-meet : (b d : TrustBound) (m w : ℕ) → Weaker b d → Weaker b (meet d m w)
 weaker-meet noBound d m w k = tt
 weaker-meet (between l u) noBound m w k = absurd k
 weaker-meet (between l u) (between i j) m w k = (omega arith, omega arith)
 
-push-wrap : (b d : Bound) (q : Node) → Weaker b d → push d q ≡ wrap d q → push b (wrap d q) ≡ wrap d q
+push-wrap : (b d : TrustBound) (q : Node) → Weaker b d → push d q ≡ wrap d q → push b (wrap d q) ≡ wrap d q
 unfolding push
 push-wrap noBound noBound q h e = e
 push-wrap (between l u) noBound q h e = absurd h
 push-wrap noBound (between m w) q h e = e
-push-wrap (between l u) (between m w) q h e = ap (λ (c : Bound). push c q) (meet-weaker (between l u) m w h) ∙ e
+push-wrap (between l u) (between m w) q h e = ap (λ (c : TrustBound). push c q) (meet-weaker (between l u) m w h) ∙ e
 
-push-wrapBelow : (b d : Bound) (x y : Node) → Weaker b d
-    → ((c : Bound) → Weaker c (trustFloor d) → (push c x ≡ x) × (push c y ≡ y))
+push-wrapBelow : (b d : TrustBound) (x y : Node) → Weaker b d
+    → ((c : TrustBound) → Weaker c (trustFloor d) → (push c x ≡ x) × (push c y ≡ y))
     → push b (wrapBelow d (join x y)) ≡ wrapBelow d (join x y)
 unfolding push
 push-wrapBelow noBound noBound x y h f = rw (f noBound tt .0, f noBound tt .1)
 push-wrapBelow (between l u) noBound x y h f = absurd h
 push-wrapBelow b (between m w) x y h f = go b (ltb w 2000) refl h
   where
-    go : (b : Bound) (t : Bool) → ltb w 2000 ≡ t → Weaker b (between m w)
+    go : (b : TrustBound) (t : Bool) → ltb w 2000 ≡ t → Weaker b (between m w)
         → push b (cond t (ensureTrust m w (join x y)) (join x y)) ≡ cond t (ensureTrust m w (join x y)) (join x y)
     go b true e k =
         let both = f (between m 2000) (le-refl m, le-refl 2000) in
@@ -225,7 +226,7 @@ push-wrapBelow b (between m w) x y h f = go b (ltb w 2000) refl h
         rw (high, both .0, both .1)
 
 -- what one bound has pushed, a weaker one does not change
-pub push-again : (b d : Bound) (q : Node) → Weaker b d → push b (push d q) ≡ push d q
+pub push-again : (b d : TrustBound) (q : Node) → Weaker b d → push b (push d q) ≡ push d q
 unfolding push
 push-again b d (patternSet ps) h = push-wrap b d (patternSet ps) h refl
 push-again b d (join x y) h =

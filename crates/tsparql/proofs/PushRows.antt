@@ -13,7 +13,7 @@ use Rattle.tsparql.specs.Values.{SoundRow, Row, withTrust, trustInside}
 use Rattle.tsparql.specs.Query.{Pattern, Condition, Node, patternSet, join, leftJoin, union, filter, projectTrust, ensureTrust}
 use Rattle.tsparql.specs.Conditions.{trueOn}
 use Rattle.tsparql.specs.Rows.{merges, joinRows, leftRow, rowsOf, countOf, spaceOf, pairsOf}
-use Rattle.tsparql.specs.Push.{Bound, noBound, between, keep, meet, trustFloor, wrap, wrapBelow, push}
+use Rattle.tsparql.specs.Push.{TrustBound, noBound, between, keep, meet, trustFloor, wrap, wrapBelow, push}
 use Rattle.tsparql.proofs.ListLaws.{every-append, every-keepIf, every-map, length-keepIf, length-concatMap-keepIf}
 use Rattle.tsparql.proofs.RowLaws.{SoundRows, joinRows-sound, leftJoinRows-sound, joinRows-keep, leftJoinRows-keep}
 use Rattle.tsparql.proofs.RowLaws.{keepIf-floor, keepIf-high, keep-meet, keep-append, keep-keepIf, keep-project, length-keep}
@@ -21,11 +21,11 @@ use Rattle.tsparql.proofs.RowLaws.{keepIf-floor, keepIf-high, keep-meet
 -- ---- a figure that passes over ensure trust nodes passes over the wrapping too
 
 module _ {X : Type 0} (f : Node → X) (pass : (l u : ℕ) (q : Node) → f (ensureTrust l u q) ≡ f q) where
-  pub wrap-pass : (b : Bound) (q : Node) → f (wrap b q) ≡ f q
+  pub wrap-pass : (b : TrustBound) (q : Node) → f (wrap b q) ≡ f q
   wrap-pass noBound q = refl
   wrap-pass (between l u) q = pass l u q
 
-  pub wrapBelow-pass : (b : Bound) (q : Node) → f (wrapBelow b q) ≡ f q
+  pub wrapBelow-pass : (b : TrustBound) (q : Node) → f (wrapBelow b q) ≡ f q
   wrapBelow-pass noBound q = refl
   wrapBelow-pass (between l u) q = go (ltb u 2000)
     where
@@ -47,7 +47,7 @@ module _ (base : List Pattern → List Row) (sound : (ps : List Pattern) → Sou
 
   -- ---- the rows
 
-  rows-wrap : (b : Bound) (q : Node) → rowsOf base (wrap b q) ≡ keep b (rowsOf base q)
+  rows-wrap : (b : TrustBound) (q : Node) → rowsOf base (wrap b q) ≡ keep b (rowsOf base q)
   unfolding rowsOf
   rows-wrap noBound q = refl
   rows-wrap (between l u) q = refl
@@ -63,7 +63,7 @@ module _ (base : List Pattern → List Row) (sound : (ps : List Pattern) → Sou
       go false f = d ∙ keepIf-high l u (ltb-false u 2000 f) rs e
 
   -- the rows of a push are the rows that the bound keeps, in order
-  pub rows-push : (b : Bound) (q : Node) → rowsOf base (push b q) ≡ keep b (rowsOf base q)
+  pub rows-push : (b : TrustBound) (q : Node) → rowsOf base (push b q) ≡ keep b (rowsOf base q)
   unfolding rowsOf push
   rows-push b (patternSet ps) = rows-wrap b (patternSet ps)
   rows-push noBound (join x y) = rw (rows-push noBound x, rows-push noBound y)
@@ -83,10 +83,11 @@ module _ (base : List Pattern → List Row) (sound : (ps : List Pattern) → Sou
 
   -- ---- how many rows
 
-  count-push-≤ : (b : Bound) (q : Node) → countOf base (push b q) ≤ countOf base q
+  count-push-≤ : (b : TrustBound) (q : Node) → countOf base (push b q) ≤ countOf base q
   count-push-≤ b q = rw (rows-push b q) (length-keep b (rowsOf base q))
 
-  count-join-≤ : (b : Bound) (x y : Node) → countOf base (join (push (trustFloor b) x) (push (trustFloor b) y)) ≤ countOf base (join x y)
+  count-join-≤ : (b : TrustBound) (x y : Node)
+      → countOf base (join (push (trustFloor b) x) (push (trustFloor b) y)) ≤ countOf base (join x y)
   unfolding rowsOf
   count-join-≤ noBound x y = rw (rows-push noBound x, rows-push noBound y) (le-refl (countOf base (join x y)))
   count-join-≤ (between l u) x y =
@@ -97,7 +98,7 @@ module _ (base : List Pattern → List Row) (sound : (ps : List Pattern) → Sou
       )
       (length-keepIf (trustInside l 2000) (joinRows (rowsOf base x) (rowsOf base y)))
 
-  count-leftJoin-≤ : (b : Bound) (c : Condition) (x y : Node)
+  count-leftJoin-≤ : (b : TrustBound) (c : Condition) (x y : Node)
       → countOf base (leftJoin c (push (trustFloor b) x) (push noBound y)) ≤ countOf base (leftJoin c x y)
   unfolding rowsOf
   count-leftJoin-≤ noBound c x y = rw (rows-push noBound x, rows-push noBound y) (le-refl (countOf base (leftJoin c x y)))
@@ -108,7 +109,7 @@ module _ (base : List Pattern → List Row) (sound : (ps : List Pattern) → Sou
   -- ---- space and pairs
 
   -- a push needs no more space
-  pub space-push-≤ : (b : Bound) (q : Node) → spaceOf base (push b q) ≤ spaceOf base q
+  pub space-push-≤ : (b : TrustBound) (q : Node) → spaceOf base (push b q) ≤ spaceOf base q
   unfolding spaceOf push
   space-push-≤ b (patternSet ps) =
       rw (wrap-pass (spaceOf base) (λ l u x. refl) b (patternSet ps)) (le-refl (spaceOf base (patternSet ps)))
@@ -138,7 +139,7 @@ module _ (base : List Pattern → List Row) (sound : (ps : List Pattern) → Sou
   space-push-≤ b (ensureTrust m w x) = space-push-≤ (meet b m w) x
 
   -- a push has no more pairs
-  pub pairs-push-≤ : (b : Bound) (q : Node) → pairsOf base (push b q) ≤ pairsOf base q
+  pub pairs-push-≤ : (b : TrustBound) (q : Node) → pairsOf base (push b q) ≤ pairsOf base q
   unfolding pairsOf push
   pairs-push-≤ b (patternSet ps) =
       rw (wrap-pass (pairsOf base) (λ l u x. refl) b (patternSet ps)) (le-refl (pairsOf base (patternSet ps)))

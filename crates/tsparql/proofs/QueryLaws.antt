@@ -12,10 +12,11 @@ use lib.Dec.{ltb}
 use lib.ListN.{length}
 use Rattle.tsparql.specs.Lists.{Every, keepIf}
 use Rattle.tsparql.specs.Query.{Node, patternSet, join, leftJoin, union, filter, projectTrust, ensureTrust}
-use Rattle.tsparql.specs.Push.{Bound, noBound, push}
+use Rattle.tsparql.specs.Push.{TrustBound, noBound, push}
 use Rattle.tsparql.specs.Writing.{nodeBytes}
 use Rattle.tsparql.specs.Reading.{Read, got, fault, readQuery, foundNode, queryNode}
-use Rattle.tsparql.specs.Check.{Passes, Refusal, refuse, noRefusal, refuseIf, orElse, Projection, projectionVariable, projections}
+use Rattle.tsparql.specs.Check.{Refusal, refuse, noRefusal, refuseIf, Passes, orElse}
+use Rattle.tsparql.specs.Check.{TrustProjection, projectedVariable, trustProjections}
 use Rattle.tsparql.specs.Check.{patternVariables, clashing, clashes, firstClash, variablesRefusal, nodeRefusal}
 use Rattle.tsparql.specs.Check.{tableRefusal, queryRefusal, evaluateLimit, check}
 use Rattle.tsparql.specs.Rewrite.{rewriteLimit, rewriting}
@@ -25,39 +26,39 @@ use Rattle.tsparql.proofs.QuerySize.{conditionSize, nodeSize, nodeSize-
 use Rattle.tsparql.proofs.QuerySize.{nodeSize-union, nodeSize-filter, nodeSize-projectTrust, nodeSize-ensureTrust}
 use Rattle.tsparql.specs.WellFormed.{Bytes, NodeFormed}
 use Rattle.tsparql.proofs.ReadWritten.{readQuery-written}
-use Rattle.tsparql.proofs.WrittenRead.{Asked, readQuery-sound}
-use Rattle.tsparql.proofs.PushQuery.{push-size-≤, patternVariables-push, projectVariables, projections-variables}
+use Rattle.tsparql.proofs.WrittenRead.{ReadsQuery, readQuery-sound}
+use Rattle.tsparql.proofs.PushQuery.{push-size-≤, patternVariables-push, projectVariables, trustProjections-variables}
 use Rattle.tsparql.proofs.PushQuery.{projectVariables-push, push-formed, push-push}
 
 -- ---- clashes: refusal 7 goes by the variables alone, and push keeps them
 
 clashes-variables : (q : Node)
-    → map projectionVariable (keepIf (clashes q) (projections 0 q))
+    → map projectedVariable (keepIf (clashes q) (trustProjections 0 q))
     ≡ keepIf (clashing (patternVariables q) (projectVariables q)) (projectVariables q)
 clashes-variables q =
-    sym (keepIf-map (clashing (patternVariables q) (map projectionVariable (projections 0 q))) projectionVariable (projections 0 q))
-    ∙ rw (projections-variables 0 q)
+    sym (keepIf-map (clashing (patternVariables q) (map projectedVariable (trustProjections 0 q))) projectedVariable (trustProjections 0 q))
+    ∙ rw (trustProjections-variables 0 q)
 
 map-nil : {A B : Type 0} (f : A → B) (xs : List A) → map f xs ≡ [] → xs ≡ []
 map-nil f [] e = refl
 map-nil f (x ∷ xs) e = cc
 
-firstClash-passes : (ps : List Projection) → Passes (firstClash ps) → ps ≡ []
+firstClash-passes : (ps : List TrustProjection) → Passes (firstClash ps) → ps ≡ []
 firstClash-passes [] e = refl
 firstClash-passes (p ∷ ps) e = absurd (let z : _≡_ {A = ℕ} 7 0 = e in omega arith)
 
 pub variablesRefusal-none : (q : Node) → Passes (variablesRefusal q) → variablesRefusal q ≡ noRefusal
 unfolding variablesRefusal
-variablesRefusal-none q z = ap firstClash (firstClash-passes (keepIf (clashes q) (projections 0 q)) z)
+variablesRefusal-none q z = ap firstClash (firstClash-passes (keepIf (clashes q) (trustProjections 0 q)) z)
 
-pub variablesRefusal-push : (b : Bound) (q : Node) → Passes (variablesRefusal q) → variablesRefusal (push b q) ≡ noRefusal
+pub variablesRefusal-push : (b : TrustBound) (q : Node) → Passes (variablesRefusal q) → variablesRefusal (push b q) ≡ noRefusal
 unfolding variablesRefusal
 variablesRefusal-push b q z =
-    let none = firstClash-passes (keepIf (clashes q) (projections 0 q)) z in
+    let none = firstClash-passes (keepIf (clashes q) (trustProjections 0 q)) z in
     ap firstClash
-    (map-nil projectionVariable (keepIf (clashes (push b q)) (projections 0 (push b q)))
+    (map-nil projectedVariable (keepIf (clashes (push b q)) (trustProjections 0 (push b q)))
     (clashes-variables (push b q)
-    ∙ rw (patternVariables-push b q, projectVariables-push b q) (sym (clashes-variables q) ∙ ap (map projectionVariable) none)))
+    ∙ rw (patternVariables-push b q, projectVariables-push b q) (sym (clashes-variables q) ∙ ap (map projectedVariable) none)))
 
 -- ---- a checked query
 
@@ -70,7 +71,7 @@ pub record QueryChecked (limit : ℕ) (s : List ℕ) : Type 0 where
   pub bytes : Bytes s → s ≡ nodeBytes (queryNode s)
   pub clear : Passes (variablesRefusal (queryNode s))
 
-found-checked : (limit : ℕ) (s : List ℕ) (r : Read Node) → readQuery s ≡ r → Asked s r → length s ≤ limit → Passes (nodeRefusal r)
+found-checked : (limit : ℕ) (s : List ℕ) (r : Read Node) → readQuery s ≡ r → ReadsQuery s r → length s ≤ limit → Passes (nodeRefusal r)
     → QueryChecked limit s
 unfolding queryNode
 found-checked limit s (got q n) e a l z =
@@ -100,30 +101,31 @@ check-parts t s z = orElse-passes (tableRefusal t) (queryRefusal evaluateLimit s
 -- ---- the refusals of a query: 5 at 0, 6 at a place of the query or at its end, 7 at a node of the query
 
 -- the project trust nodes of a node stand before its end
-projections-inside : (at end : ℕ) (q : Node) → at + nodeSize q ≤ end → Every (λ p. p .place < end) (projections at q)
-unfolding projections
-projections-inside at end (patternSet ps) h = tt
-projections-inside at end (join x y) h =
-    every-append _ (projections (at + 1) x) (projections (at + 1 + nodeSize x) y)
-    (projections-inside (at + 1) end x (omega (arith, nodeSize-join x y)))
-    (projections-inside (at + 1 + nodeSize x) end y (omega (arith, nodeSize-join x y)))
-projections-inside at end (leftJoin c x y) h =
+trustProjections-inside : (at end : ℕ) (q : Node) → at + nodeSize q ≤ end → Every (λ p. p .place < end) (trustProjections at q)
+unfolding trustProjections
+trustProjections-inside at end (patternSet ps) h = tt
+trustProjections-inside at end (join x y) h =
+    every-append _ (trustProjections (at + 1) x) (trustProjections (at + 1 + nodeSize x) y)
+    (trustProjections-inside (at + 1) end x (omega (arith, nodeSize-join x y)))
+    (trustProjections-inside (at + 1 + nodeSize x) end y (omega (arith, nodeSize-join x y)))
+trustProjections-inside at end (leftJoin c x y) h =
     let first = at + 1 + conditionSize c in
-    every-append _ (projections first x) (projections (first + nodeSize x) y)
-    (projections-inside first end x (omega (arith, nodeSize-leftJoin c x y)))
-    (projections-inside (first + nodeSize x) end y (omega (arith, nodeSize-leftJoin c x y)))
-projections-inside at end (union x y) h =
-    every-append _ (projections (at + 1) x) (projections (at + 1 + nodeSize x) y)
-    (projections-inside (at + 1) end x (omega (arith, nodeSize-union x y)))
-    (projections-inside (at + 1 + nodeSize x) end y (omega (arith, nodeSize-union x y)))
-projections-inside at end (filter c x) h = projections-inside (at + 1 + conditionSize c) end x (omega (arith, nodeSize-filter c x))
-projections-inside at end (projectTrust v x) h = (
+    every-append _ (trustProjections first x) (trustProjections (first + nodeSize x) y)
+    (trustProjections-inside first end x (omega (arith, nodeSize-leftJoin c x y)))
+    (trustProjections-inside (first + nodeSize x) end y (omega (arith, nodeSize-leftJoin c x y)))
+trustProjections-inside at end (union x y) h =
+    every-append _ (trustProjections (at + 1) x) (trustProjections (at + 1 + nodeSize x) y)
+    (trustProjections-inside (at + 1) end x (omega (arith, nodeSize-union x y)))
+    (trustProjections-inside (at + 1 + nodeSize x) end y (omega (arith, nodeSize-union x y)))
+trustProjections-inside at end (filter c x) h =
+    trustProjections-inside (at + 1 + conditionSize c) end x (omega (arith, nodeSize-filter c x))
+trustProjections-inside at end (projectTrust v x) h = (
   omega (arith, nodeSize-projectTrust v x, nodeSize-positive x),
-  projections-inside (at + 1) end x (omega (arith, nodeSize-projectTrust v x)),
+  trustProjections-inside (at + 1) end x (omega (arith, nodeSize-projectTrust v x)),
 )
-projections-inside at end (ensureTrust l u x) h = projections-inside (at + 4) end x (omega (arith, nodeSize-ensureTrust l u x))
+trustProjections-inside at end (ensureTrust l u x) h = trustProjections-inside (at + 4) end x (omega (arith, nodeSize-ensureTrust l u x))
 
-firstClash-cases : (P : Refusal → Type 0) (n : ℕ) (ps : List Projection) → Every (λ p. p .place < n) ps → P noRefusal
+firstClash-cases : (P : Refusal → Type 0) (n : ℕ) (ps : List TrustProjection) → Every (λ p. p .place < n) ps → P noRefusal
     → ((p : ℕ) → p < n → P (refuse 7 p)) → P (firstClash ps)
 firstClash-cases P n [] e z h = z
 firstClash-cases P n (p ∷ ps) e z h = h (p .place) (e .0)
@@ -132,10 +134,10 @@ variablesRefusal-cases : (P : Refusal → Type 0) (q : Node) → P noRefusal →
     → P (variablesRefusal q)
 unfolding variablesRefusal
 variablesRefusal-cases P q z h =
-    firstClash-cases P (nodeSize q) (keepIf (clashes q) (projections 0 q))
-    (every-keepIf _ (clashes q) (projections 0 q) (projections-inside 0 (nodeSize q) q (omega arith))) z h
+    firstClash-cases P (nodeSize q) (keepIf (clashes q) (trustProjections 0 q))
+    (every-keepIf _ (clashes q) (trustProjections 0 q) (trustProjections-inside 0 (nodeSize q) q (omega arith))) z h
 
-nodeRefusal-cases : (P : Refusal → Type 0) (s : List ℕ) (r : Read Node) → Asked s r → P noRefusal
+nodeRefusal-cases : (P : Refusal → Type 0) (s : List ℕ) (r : Read Node) → ReadsQuery s r → P noRefusal
     → ((p : ℕ) → p ≤ length s → P (refuse 6 p)) → ((p : ℕ) → p < length s → P (refuse 7 p)) → P (nodeRefusal r)
 nodeRefusal-cases P s (got q n) a z six seven = variablesRefusal-cases P q z (λ p l. seven p (rw (a .size) at l))
 nodeRefusal-cases P s (fault p) a z six seven = six p a
@@ -184,6 +186,10 @@ module _ (s : List ℕ) (z : Passes (queryRefusal rewriteLimit s)) where
   rewriting-size-≤ = omega (arith, push-size-≤ noBound (queryNode s), query-checked rewriteLimit s z .size)
 
   -- read back, it is the pushed tree
+  pub readQuery-rewriting : readQuery (rewriting s) ≡ got (push noBound (queryNode s)) (length (rewriting s))
+  unfolding rewriting
+  readQuery-rewriting = readQuery-written (push noBound (queryNode s)) rewriting-formed
+
   pub queryNode-rewriting : queryNode (rewriting s) ≡ push noBound (queryNode s)
   unfolding rewriting
   queryNode-rewriting = queryNode-written (push noBound (queryNode s)) rewriting-formed
@@ -201,9 +207,9 @@ module _ (s : List ℕ) (z : Passes (queryRefusal rewriteLimit s)) where
       (variablesRefusal-push noBound (queryNode s) (c .clear))
 
   -- where the rewriting is short enough for rewriting itself, it passes there too
-  pub rewriting-accepted : length (rewriting s) ≤ rewriteLimit → queryRefusal rewriteLimit (rewriting s) ≡ noRefusal
+  pub rewriting-passes-again : length (rewriting s) ≤ rewriteLimit → queryRefusal rewriteLimit (rewriting s) ≡ noRefusal
   unfolding rewriting
-  rewriting-accepted short =
+  rewriting-passes-again short =
       written-passes rewriteLimit (push noBound (queryNode s)) short rewriting-formed
       (variablesRefusal-push noBound (queryNode s) (query-checked rewriteLimit s z .clear))
 

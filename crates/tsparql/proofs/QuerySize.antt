@@ -1,61 +1,17 @@
--- How many bytes a condition and a node are written as (specs/Writing.antt): one law a constructor, and that none is written as no
--- byte. Groups: patterns; conditions; nodes.
--- Assumes nothing.
+-- How many bytes a condition and a node are written as (specs/Writing.antt): a law for each node with operands, and that none is
+-- written as no byte. Assumes nothing.
 use mathlib.Core.Path.{_≡_, refl, ap}
-use mathlib.Core.List.{List, [], _∷_}
-use Prim.Native.Nat.{ℕ, suc, _+_, _*_, _≤_}
+use Prim.Native.Nat.{ℕ, suc, _+_, _≤_}
 use native.Mathlib.Omega.{arith}
 use lib.ListN.{length, length-append}
-use Rattle.tsparql.specs.Lists.{concatMap}
-use Rattle.tsparql.specs.Query.{Pattern}
 use Rattle.tsparql.specs.Query.{Condition, bound, same, isTerm, less, negation, conjunction, disjunction, always}
 use Rattle.tsparql.specs.Query.{Node, patternSet, join, leftJoin, union, filter, projectTrust, ensureTrust}
-use Rattle.tsparql.specs.Writing.{patternBytes, conditionBytes, nodeBytes}
-
--- ---- patterns
-
--- every pattern is written as 9 bytes
-pub length-concatMap-patternBytes : (ps : List Pattern) → length (concatMap patternBytes ps) ≡ 9 * length ps
-unfolding patternBytes
-length-concatMap-patternBytes [] = refl
-length-concatMap-patternBytes (p ∷ ps) = omega (arith, length-concatMap-patternBytes ps)
+use Rattle.tsparql.specs.Writing.{conditionBytes, nodeBytes}
 
 -- ---- conditions
 
 abbrev pub conditionSize : Condition → ℕ
 conditionSize c = length (conditionBytes c)
-
-pub conditionSize-bound : (v : ℕ) → conditionSize (bound v) ≡ 1
-unfolding conditionBytes
-conditionSize-bound v = refl
-
-pub conditionSize-same : (v w : ℕ) → conditionSize (same v w) ≡ 2
-unfolding conditionBytes
-conditionSize-same v w = refl
-
-pub conditionSize-isTerm : (v a : ℕ) → conditionSize (isTerm v a) ≡ 4
-unfolding conditionBytes
-conditionSize-isTerm v a = refl
-
-pub conditionSize-less : (v w : ℕ) → conditionSize (less v w) ≡ 2
-unfolding conditionBytes
-conditionSize-less v w = refl
-
-pub conditionSize-negation : (c : Condition) → conditionSize (negation c) ≡ suc (conditionSize c)
-unfolding conditionBytes
-conditionSize-negation c = refl
-
-pub conditionSize-conjunction : (c d : Condition) → conditionSize (conjunction c d) ≡ suc (conditionSize c + conditionSize d)
-unfolding conditionBytes
-conditionSize-conjunction c d = ap suc (length-append (conditionBytes c) (conditionBytes d))
-
-pub conditionSize-disjunction : (c d : Condition) → conditionSize (disjunction c d) ≡ suc (conditionSize c + conditionSize d)
-unfolding conditionBytes
-conditionSize-disjunction c d = ap suc (length-append (conditionBytes c) (conditionBytes d))
-
-pub conditionSize-always : conditionSize always ≡ 1
-unfolding conditionBytes
-conditionSize-always = refl
 
 -- a condition is written as one byte at least
 pub conditionSize-positive : (c : Condition) → 1 ≤ conditionSize c
@@ -73,10 +29,6 @@ conditionSize-positive always = omega arith
 
 abbrev pub nodeSize : Node → ℕ
 nodeSize q = length (nodeBytes q)
-
-pub nodeSize-patternSet : (ps : List Pattern) → nodeSize (patternSet ps) ≡ suc (9 * length ps)
-unfolding nodeBytes
-nodeSize-patternSet ps = ap suc (length-concatMap-patternBytes ps)
 
 pub nodeSize-join : (x y : Node) → nodeSize (join x y) ≡ suc (nodeSize x + nodeSize y)
 unfolding nodeBytes

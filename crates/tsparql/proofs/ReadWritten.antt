@@ -234,7 +234,7 @@ readNode-written (ensureTrust l u x) h rest =
 
 -- ---- queries
 
--- THE ROUND TRIP: a query is read as the node that it was written from
+-- a well-formed node, written and read as a query, is itself
 pub readQuery-written : (q : Node) → NodeFormed q → readQuery (nodeBytes q) ≡ got q (nodeSize q)
 unfolding readQuery
 readQuery-written q h = rw (alone, zero-add (nodeSize q), eq-eqb (nodeSize q) (nodeSize q) refl)

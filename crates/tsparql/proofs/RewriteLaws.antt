@@ -3,7 +3,7 @@
 use mathlib.Core.Path.{_≡_, refl, ap, _∙_}
 use mathlib.Core.Bool.{Bool, true, false, cond}
 use mathlib.Core.List.{List}
-use Prim.Native.Nat.{ℕ, _≤_, zero-le}
+use Prim.Native.Nat.{ℕ, _*_, _≤_, zero-le}
 use native.Mathlib.Omega.{arith}
 use borrow.Author.Tests.{ltb-false, eqb-true, eqb-false, eq-eqb, le-ltb}
 use lib.Dec.{ltb}
@@ -12,8 +12,9 @@ use lib.Seq.{take-append-seam}
 use Rattle.tsparql.specs.Check.{Passes, Refusal, refuseIf, passes, queryRefusal, evaluateLimit}
 use Rattle.tsparql.specs.Rewrite.{rewriteLimit, rewriting, Rewritten, rewriteRefusal, wroteInto, wroteNothing}
 use Rattle.tsparql.specs.Rewrite.{rewrite, Accepted, written}
-use Rattle.tsparql.proofs.RefusalLaws.{orElse-passes, refuseIf-passes, refuseIf-cases}
-use Rattle.tsparql.proofs.QueryLaws.{query-checked, queryRefusal-cases, rewriting-size-≤, rewriting-rewriting, rewriting-accepted}
+use Rattle.tsparql.proofs.RefusalLaws.{orElse-second, orElse-cases, orElse-passes, refuseIf-passes, refuseIf-cases}
+use Rattle.tsparql.proofs.QueryLaws.{query-checked, queryRefusal-cases, rewriting-size-≤}
+use Rattle.tsparql.proofs.QueryLaws.{rewriting-passes-again, rewriting-rewriting}
 
 module _ (s out : List ℕ) where
   -- what is shown of a result and of a refusal is shown of the call
@@ -37,6 +38,10 @@ module _ (s out : List ℕ) where
   accepted-refusal =
       rewrite-cases (λ r. Passes (r .refusal) → Passes (rewriteRefusal s (length out))) (λ z _. z) (λ _ w. w)
 
+  -- an accepted query: the result at the front of the output, and the rest as it was
+  pub accepted-wrote : Accepted s out → rewrite s out ≡ wroteInto (rewriting s) out
+  accepted-wrote a = rewrite-passes (accepted-refusal a)
+
   -- no refusal 5 to 7 under rewriting's limit
   pub accepted-passes : Accepted s out → Passes (queryRefusal rewriteLimit s)
   unfolding rewriteRefusal
@@ -45,12 +50,20 @@ module _ (s out : List ℕ) where
   -- what is written is the rewriting
   pub accepted-written : Accepted s out → written s out ≡ rewriting s
   accepted-written a =
-      rw (rewrite-passes (accepted-refusal a)) (take-append-seam (rewriting s) (drop (length (rewriting s)) out))
+      rw (accepted-wrote a) (take-append-seam (rewriting s) (drop (length (rewriting s)) out))
+
+  -- a query that passes is accepted by every output of 5 times its length
+  pub passes-accepted : Passes (queryRefusal rewriteLimit s) → 5 * length s ≤ length out → Accepted s out
+  unfolding rewriteRefusal
+  passes-accepted z long =
+      let fits = le-ltb (length out) (length (rewriting s)) (omega (arith, rewriting-size-≤ s z)) in
+      ap (λ r. r .refusal .number) (rewrite-passes (rw (orElse-second (queryRefusal rewriteLimit s) _ z, fits)))
 
 -- ---- numbers and lengths
 
--- every place and the length fit evaluation's limit, and the output keeps its length
+-- the number is at most 9, place and length at most evaluation's limit, and the output keeps its length
 pub record RewriteFits (out : List ℕ) (r : Rewritten) : Type 0 where
+  pub number-fits : r .refusal .number ≤ 9
   pub place-fits : r .refusal .place ≤ evaluateLimit
   pub size-fits : r .size ≤ evaluateLimit
   pub length-kept : length (r .output) ≡ length out
@@ -73,6 +86,14 @@ rewriteRefusal-place s bytes = go (passes (queryRefusal rewriteLimit s)) refl
         queryRefusal-cases (λ r. r .place ≤ evaluateLimit) rewriteLimit s zero-le zero-le
         (λ l p k. omega arith) (λ l p k. omega arith)
 
+rewriteRefusal-number : (s : List ℕ) (bytes : ℕ) → rewriteRefusal s bytes .number ≤ 9
+unfolding rewriteRefusal
+rewriteRefusal-number s bytes =
+    let short = ltb bytes (length (rewriting s)) in
+    orElse-cases (λ r. r .number ≤ 9) (queryRefusal rewriteLimit s) (refuseIf short 9 (length (rewriting s)))
+    (queryRefusal-cases (λ r. r .number ≤ 9) rewriteLimit s zero-le (omega arith) (λ l p k. omega arith) (λ l p k. omega arith))
+    (refuseIf-cases (λ r. r .number ≤ 9) short 9 (length (rewriting s)) (λ _. omega arith) zero-le)
+
 -- the output was long enough
 wrote-long : (s out : List ℕ) → Passes (rewriteRefusal s (length out)) → length (rewriting s) ≤ length out
 unfolding rewriteRefusal
@@ -86,13 +107,19 @@ unfolding rewriteRefusal
 rewrite-fits s out =
     rewrite-cases s out (RewriteFits out)
     (λ z. record {
+      number-fits = zero-le;
       place-fits = zero-le;
       size-fits = rewriting-fits s (orElse-passes (queryRefusal rewriteLimit s) _ z .0);
       length-kept =
           let size = length (rewriting s) in
           omega (arith, length-append (rewriting s) (drop size out), length-drop size out, wrote-long s out z);
     })
-    (λ z. record { place-fits = rewriteRefusal-place s (length out); size-fits = zero-le; length-kept = refl })
+    (λ z. record {
+      number-fits = rewriteRefusal-number s (length out);
+      place-fits = rewriteRefusal-place s (length out);
+      size-fits = zero-le;
+      length-kept = refl;
+    })
 
 -- ---- again
 
@@ -100,7 +127,7 @@ again-passes : (s : List ℕ) (bytes : ℕ) → Passes (queryRefusal rewriteLimi
     → length (rewriting s) ≤ bytes → Passes (rewriteRefusal (rewriting s) bytes)
 unfolding rewriteRefusal
 again-passes s bytes z short long =
-    rw (rewriting-accepted s z short, rewriting-rewriting s z, le-ltb bytes (length (rewriting s)) long)
+    rw (rewriting-passes-again s z short, rewriting-rewriting s z, le-ltb bytes (length (rewriting s)) long)
 
 -- what was written for a query, if it is short enough for rewriting and the output long enough, is rewritten to itself
 pub rewrite-again : (s out out′ : List ℕ) → Accepted s out → length (written s out) ≤ rewriteLimit → length (written s out) ≤ length out′

@@ -1,5 +1,5 @@
 -- What the check of a table gives: every record is sound and above the one before it; so every fact that a view shows has a trust of
--- at most 1000, and no triple stands twice. Groups: records; the refusals; facts; facts rise. Assumes nothing.
+-- at most 1000, and no triple stands twice in the whole table. Groups: records; the refusals; facts; facts rise. Assumes nothing.
 use mathlib.Core.Path.{_≡_, refl}
 use mathlib.Core.Bool.{Bool, true, false, _&&_, _||_, not, cond}
 use mathlib.Core.List.{List, [], _∷_}
@@ -12,10 +12,10 @@ use lib.ListN.{length, drop-of-length-le}
 use Rattle.tsparql.specs.PatternSets.{SoundFact}
 use Rattle.tsparql.specs.Lists.{Every, concatMap, upFrom}
 use Rattle.tsparql.specs.Values.{Sound, known, unknown}
-use Rattle.tsparql.specs.Table.{Fact, bigEndian, recordLength, recordAt, knownBit, trustField, trustOf, factOf, termsSound}
+use Rattle.tsparql.specs.Table.{Fact, bigEndian, recordLength, recordAt, knownBit, trustField, trustOf, factOf, termsNonzero}
 use Rattle.tsparql.specs.Table.{trustSound, recordSound, below, View, wholeTable, factAt, factsIn}
-use Rattle.tsparql.specs.Check.{Passes, Refusal, refuse, noRefusal, refuseIf, orElse, recordLimit, rises, recordRefusal, recordsRefusal}
-use Rattle.tsparql.specs.Check.{tableRefusal}
+use Rattle.tsparql.specs.Check.{Refusal, refuse, noRefusal, refuseIf, Passes, orElse}
+use Rattle.tsparql.specs.Check.{recordLimit, rises, recordRefusal, recordsRefusal, tableRefusal}
 use Rattle.tsparql.proofs.ListLaws.{and-left, and-right, every-of, every-concatMap}
 use Rattle.tsparql.proofs.RefusalLaws.{orElse-cases, orElse-passes, refuseIf-passes, refuseIf-cases}
 
@@ -117,7 +117,7 @@ factOf-sound : (x : ℕ) → recordSound x ≡ true → SoundFact (factOf x)
 unfolding factOf
 factOf-sound x e =
     let low = leb (trustField x) 2000 in
-    let trusts = and-right (termsSound x) (trustSound x) e in
+    let trusts = and-right (termsNonzero x) (trustSound x) e in
     trustOf-sound x (λ _. leb-true (trustField x) 2000 (and-left low (eqb (knownBit x) 1 || eqb (trustField x) 0) trusts))
 
 -- behind the last record there are no bytes, and no known trust

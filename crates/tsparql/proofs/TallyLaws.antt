@@ -3,11 +3,11 @@
 use mathlib.Core.Path.{_≡_, refl}
 use mathlib.Core.Bool.{Bool, true, false, not}
 use mathlib.Core.List.{List, [], _∷_}
-use Prim.Native.Nat.{ℕ, suc, _+_, _≤_, min}
+use Prim.Native.Nat.{suc, _+_, _≤_, min}
 use native.Mathlib.Omega.{arith}
 use lib.ListN.{length}
 use Rattle.tsparql.specs.Lists.{consIf, keepIf}
-use Rattle.tsparql.specs.Ceiling.{greatest}
+use Rattle.tsparql.specs.Ceiling.{greatest32}
 use Rattle.tsparql.specs.Check.{Refusal, passes}
 use Rattle.tsparql.specs.Calls.{Tally, raiseOne, tallied, Request, requestRefusal, answeredIn, refusedIn, zeroTally, run}
 
@@ -25,17 +25,17 @@ counted-all (e ∷ es) = go (passes (requestRefusal e)) (counted-all es)
 
 -- b shows the counts of a, each raised once for each of its requests, and stopped at the greatest value
 pub record Counted (a b : Tally) (es : List Request) : Type 0 where
-  pub answered-is : b .answered ≡ min (a .answered + answeredIn es) greatest
-  pub refused-is : b .refused ≡ min (a .refused + refusedIn es) greatest
+  pub answered-is : b .answered ≡ min (a .answered + answeredIn es) greatest32
+  pub refused-is : b .refused ≡ min (a .refused + refusedIn es) greatest32
 
 -- one request raises one of the two counts
-tallied-counts : (a : Tally) (e : Request) → a .answered ≤ greatest → a .refused ≤ greatest
+tallied-counts : (a : Tally) (e : Request) → a .answered ≤ greatest32 → a .refused ≤ greatest32
     → Counted a (tallied a (requestRefusal e)) (e ∷ [])
 unfolding tallied
 tallied-counts a e h k = record { answered-is = go (passes (requestRefusal e)) .0; refused-is = go (passes (requestRefusal e)) .1 }
   where
-    go : (b : Bool) → (raiseOne b a .answered ≡ min (a .answered + length (consIf b e [])) greatest)
-        × (raiseOne b a .refused ≡ min (a .refused + length (consIf (not b) e [])) greatest)
+    go : (b : Bool) → (raiseOne b a .answered ≡ min (a .answered + length (consIf b e [])) greatest32)
+        × (raiseOne b a .refused ≡ min (a .refused + length (consIf (not b) e [])) greatest32)
     go true = (omega arith, omega arith)
     go false = (omega arith, omega arith)
 
@@ -54,7 +54,7 @@ refusedIn-cons e es = go (not (passes (requestRefusal e)))
     go false = omega arith
 
 -- for every run: each count is raised once for each of its requests, and stops at 4,294,967,295
-pub run-counts : (a : Tally) (es : List Request) → a .answered ≤ greatest → a .refused ≤ greatest → Counted a (run a es) es
+pub run-counts : (a : Tally) (es : List Request) → a .answered ≤ greatest32 → a .refused ≤ greatest32 → Counted a (run a es) es
 unfolding run
 run-counts a [] h k = record { answered-is = omega arith; refused-is = omega arith }
 run-counts a (e ∷ es) h k =
@@ -67,19 +67,19 @@ run-counts a (e ∷ es) h k =
     }
 
 -- begun at zero, while neither has stopped, the counts together are the evaluations, and answered is how many were answered
-pub tally-run : (es : List Request) → (run zeroTally es .answered ≡ greatest → ⊥) → (run zeroTally es .refused ≡ greatest → ⊥)
+pub tally-run : (es : List Request) → (run zeroTally es .answered ≡ greatest32 → ⊥) → (run zeroTally es .refused ≡ greatest32 → ⊥)
     → (run zeroTally es .answered + run zeroTally es .refused ≡ length es) × (run zeroTally es .answered ≡ answeredIn es)
 tally-run es h k =
     let c = run-counts zeroTally es (omega arith) (omega arith) in
     (omega (arith, c .answered-is, c .refused-is, counted-all es), omega (arith, c .answered-is))
 
 -- a count that has stopped stays
-pub tallied-stays : (a : Tally) (r : Refusal) → (a .answered ≡ greatest → tallied a r .answered ≡ greatest)
-    × (a .refused ≡ greatest → tallied a r .refused ≡ greatest)
+pub tallied-stays : (a : Tally) (r : Refusal) → (a .answered ≡ greatest32 → tallied a r .answered ≡ greatest32)
+    × (a .refused ≡ greatest32 → tallied a r .refused ≡ greatest32)
 unfolding tallied
 tallied-stays a r = go (passes r)
   where
-    go : (b : Bool) → (a .answered ≡ greatest → raiseOne b a .answered ≡ greatest)
-        × (a .refused ≡ greatest → raiseOne b a .refused ≡ greatest)
+    go : (b : Bool) → (a .answered ≡ greatest32 → raiseOne b a .answered ≡ greatest32)
+        × (a .refused ≡ greatest32 → raiseOne b a .refused ≡ greatest32)
     go true = (λ h. omega arith, λ h. h)
     go false = (λ h. h, λ h. omega arith)

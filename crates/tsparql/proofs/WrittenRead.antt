@@ -414,11 +414,11 @@ pub record Whole (s : List ℕ) (q : Node) (n : ℕ) : Type 0 where
   pub size : nodeSize q ≡ length s
   pub bytes : Bytes s → s ≡ nodeBytes q
 
-abbrev pub Asked : List ℕ → Read Node → Type 0
-Asked s r = Finds (Whole s) s r
+abbrev pub ReadsQuery : List ℕ → Read Node → Type 0
+ReadsQuery s r = Finds (Whole s) s r
 
--- THE READING: a query without a fault is its node's bytes, and a fault is at a place of the query or at its end
-pub readQuery-sound : (s : List ℕ) → Asked s (readQuery s)
+-- a query of bytes without a fault is its node's bytes, and a fault is at a place of the query or at its end
+pub readQuery-sound : (s : List ℕ) → ReadsQuery s (readQuery s)
 unfolding readQuery
 readQuery-sound s =
     finds-andThen NodeFormed nodeBytes (Whole s) s 0 [] (readNode s) (wholeQuery s) (part-none s) (readNode-sound s)

@@ -7,7 +7,7 @@ use lib.ListN.{length}
 use Rattle.tsparql.specs.Lists.{keepIf}
 use Rattle.tsparql.specs.Table.{View, wholeTable, factsIn}
 use Rattle.tsparql.specs.PatternSets.{least}
-use Rattle.tsparql.specs.Ceiling.{greatest, productFigure, ceilingOf}
+use Rattle.tsparql.specs.Ceiling.{greatest32, productFigure, ceilingOf}
 use Rattle.tsparql.specs.Reading.{queryNode}
 use Rattle.tsparql.specs.Check.{Refusal, noRefusal, passes, check}
 use Rattle.tsparql.specs.Evaluate.{Evaluated, evaluateOver}
@@ -25,9 +25,9 @@ pub record Tally : Type 0 where
 
 -- one more, stopping at 4,294,967,295
 abbrev pub raised : ℕ → ℕ
-raised n = min (n + 1) greatest
+raised n = min (n + 1) greatest32
 
--- answered raised by 1, or else refused
+-- answered raised by 1 where the test passed, else refused
 abbrev pub raiseOne : Bool → Tally → Tally
 raiseOne true a = record { answered = raised (a .answered); refused = a .refused }
 raiseOne false a = record { answered = a .answered; refused = raised (a .refused) }
@@ -36,24 +36,24 @@ unfoldable pub tallied : Tally → Refusal → Tally
 tallied a r = raiseOne (passes r) a
 
 -- an evaluation's answer, and the tally that it gives back
-pub record Evaluation : Type 0 where
-  pub answer : Evaluated
+pub record EvaluateAnswer : Type 0 where
+  pub evaluated : Evaluated
   pub tally : Tally
 
 -- the call
-abbrev pub evaluate : Tally → List ℕ → List ℕ → List ℕ → Evaluation
+abbrev pub evaluate : Tally → List ℕ → List ℕ → List ℕ → EvaluateAnswer
 evaluate a t s ws =
-    record { answer = evaluateUntallied t s ws; tally = tallied a (evaluateUntallied t s ws .refusal) }
+    record { evaluated = evaluateUntallied t s ws; tally = tallied a (evaluateUntallied t s ws .refusal) }
 
 -- ---- a run of evaluations, each given the tally that the last one gave back
 
 pub record Request : Type 0 where
   pub table : List ℕ
   pub query : List ℕ
-  pub space : List ℕ
+  pub rowSpace : List ℕ
 
 abbrev pub requestRefusal : Request → Refusal
-requestRefusal e = evaluateUntallied (e .table) (e .query) (e .space) .refusal
+requestRefusal e = evaluateUntallied (e .table) (e .query) (e .rowSpace) .refusal
 
 -- how many requests of a list are answered, and how many refused
 abbrev pub answeredIn : List Request → ℕ
@@ -67,7 +67,7 @@ zeroTally = record { answered = 0; refused = 0 }
 
 unfoldable pub run : Tally → List Request → Tally
 run a [] = a
-run a (e ∷ es) = run (evaluate a (e .table) (e .query) (e .space) .tally) es
+run a (e ∷ es) = run (evaluate a (e .table) (e .query) (e .rowSpace) .tally) es
 
 -- ---- ceiling
 
@@ -84,8 +84,8 @@ ceilingRefused r = record { refusal = r; ceiling = 0 }
 -- refusals as in check, with ceiling 0
 unfoldable pub ceilingIn : View → List ℕ → List ℕ → CeilingAnswer
 ceilingIn v t s =
-    cond (passes (check t s)) (ceilingAnswered (ceilingOf (productFigure (factsIn v t)) (queryNode s)))
-    (ceilingRefused (check t s))
+    let r = check t s in
+    cond (passes r) (ceilingAnswered (ceilingOf (productFigure (factsIn v t)) (queryNode s))) (ceilingRefused r)
 
 -- the call
 abbrev pub ceilingCall : List ℕ → List ℕ → CeilingAnswer

@@ -26,7 +26,7 @@ refuse n p = record { number = n; place = p }
 abbrev pub noRefusal : Refusal
 noRefusal = refuse 0 0
 
--- the refusal where the test passes
+-- this refusal where the test passes, else none
 abbrev pub refuseIf : Bool → ℕ → ℕ → Refusal
 refuseIf b n p = cond b (refuse n p) noRefusal
 
@@ -71,24 +71,24 @@ tableRefusal t =
 -- ---- the variables of a query: 7
 
 -- a project trust node of a query: its place, and its variable
-pub record Projection : Type 0 where
+pub record TrustProjection : Type 0 where
   pub place : ℕ
   pub variable : ℕ
 
-abbrev pub projectionVariable : Projection → ℕ
-projectionVariable p = p .variable
+abbrev pub projectedVariable : TrustProjection → ℕ
+projectedVariable p = p .variable
 
 -- the project trust nodes in prefix order, for a node that starts at a place
-unfoldable pub projections : ℕ → Node → List Projection
-projections at (patternSet ps) = []
-projections at (join x y) = projections (at + 1) x ++ projections (at + 1 + length (nodeBytes x)) y
-projections at (leftJoin c x y) =
-    projections (at + 1 + length (conditionBytes c)) x
-    ++ projections (at + 1 + length (conditionBytes c) + length (nodeBytes x)) y
-projections at (union x y) = projections (at + 1) x ++ projections (at + 1 + length (nodeBytes x)) y
-projections at (filter c x) = projections (at + 1 + length (conditionBytes c)) x
-projections at (projectTrust v x) = record { place = at; variable = v } ∷ projections (at + 1) x
-projections at (ensureTrust l u x) = projections (at + 4) x
+unfoldable pub trustProjections : ℕ → Node → List TrustProjection
+trustProjections at (patternSet ps) = []
+trustProjections at (join x y) = trustProjections (at + 1) x ++ trustProjections (at + 1 + length (nodeBytes x)) y
+trustProjections at (leftJoin c x y) =
+    trustProjections (at + 1 + length (conditionBytes c)) x
+    ++ trustProjections (at + 1 + length (conditionBytes c) + length (nodeBytes x)) y
+trustProjections at (union x y) = trustProjections (at + 1) x ++ trustProjections (at + 1 + length (nodeBytes x)) y
+trustProjections at (filter c x) = trustProjections (at + 1 + length (conditionBytes c)) x
+trustProjections at (projectTrust v x) = record { place = at; variable = v } ∷ trustProjections (at + 1) x
+trustProjections at (ensureTrust l u x) = trustProjections (at + 4) x
 
 abbrev pub slotVariables : Slot → List ℕ
 slotVariables (aTerm a) = []
@@ -111,20 +111,20 @@ patternVariables (ensureTrust l u x) = patternVariables x
 abbrev pub occurrences : ℕ → List ℕ → ℕ
 occurrences v vs = length (keepIf (eqb v) vs)
 
--- the variable stands in a pattern, or in another project trust too
+-- a variable of the second list, project trust's, stands in the first, the patterns', or twice in the second
 abbrev pub clashing : List ℕ → List ℕ → ℕ → Bool
 clashing inPatterns inProjections v = ltb 0 (occurrences v inPatterns) || ltb 1 (occurrences v inProjections)
 
-abbrev pub clashes : Node → Projection → Bool
-clashes q p = clashing (patternVariables q) (map projectionVariable (projections 0 q)) (p .variable)
+abbrev pub clashes : Node → TrustProjection → Bool
+clashes q p = clashing (patternVariables q) (map projectedVariable (trustProjections 0 q)) (p .variable)
 
 -- 7 at the first of the nodes
-abbrev pub firstClash : List Projection → Refusal
+abbrev pub firstClash : List TrustProjection → Refusal
 firstClash [] = noRefusal
 firstClash (p ∷ ps) = refuse 7 (p .place)
 
 unfoldable pub variablesRefusal : Node → Refusal
-variablesRefusal q = firstClash (keepIf (clashes q) (projections 0 q))
+variablesRefusal q = firstClash (keepIf (clashes q) (trustProjections 0 q))
 
 -- ---- the query: 5 to 7
 

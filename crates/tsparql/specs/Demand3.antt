@@ -19,13 +19,13 @@ pub record AnswersNode (g : Aggregate) (fs : List Fact) (q : Node) (words : ℕ)
   pub rows-are : e .rows ≡ length (rowsOver g fs q)
   pub peak-is : e .peak ≡ spaceOver g fs q
   pub pairs-are : e .pairs ≡ pairsOver g fs q
-  pub words-are : e .space ≡ padded (concatMap rowWords (rowsOver g fs q)) words
+  pub words-are : e .rowSpace ≡ padded (concatMap rowWords (rowsOver g fs q)) words
 
 -- r is answered as e is: as many rows, the same final row space, no more peak and no more pairs
 pub record AnsweredAlike (e r : Evaluated) : Type 0 where
   pub no-refusal : r .refusal ≡ noRefusal
   pub same-rows : r .rows ≡ e .rows
-  pub same-space : r .space ≡ e .space
+  pub same-space : r .rowSpace ≡ e .rowSpace
   pub no-more-peak : r .peak ≤ e .peak
   pub no-more-pairs : r .pairs ≤ e .pairs
 

@@ -9,36 +9,36 @@ use Rattle.tsparql.specs.Values.{Row, trustInside}
 use Rattle.tsparql.specs.Query.{Node, patternSet, join, leftJoin, union, filter, projectTrust, ensureTrust}
 
 -- none, or (l, u)
-pub data Bound : Type 0 where
-  noBound : Bound
-  between : ℕ → ℕ → Bound
+pub data TrustBound : Type 0 where
+  noBound : TrustBound
+  between : ℕ → ℕ → TrustBound
 
 -- the rows that a bound keeps
-abbrev pub keep : Bound → List Row → List Row
+abbrev pub keep : TrustBound → List Row → List Row
 keep noBound rs = rs
 keep (between l u) rs = keepIf (trustInside l u) rs
 
--- the bound of an ensure trust node (m, w) under another bound
-abbrev pub meet : Bound → ℕ → ℕ → Bound
+-- the bound that the operand of ensure trust (m, w) gets
+abbrev pub meet : TrustBound → ℕ → ℕ → TrustBound
 meet noBound m w = between m w
 meet (between l u) m w = between (max l m) (min u w)
 
--- what both operands of a join get, and the left one of a left join: (l, 1000)
-abbrev pub trustFloor : Bound → Bound
+-- what both operands of a join get, and the left one of a left join: (l, 1000); none under none
+abbrev pub trustFloor : TrustBound → TrustBound
 trustFloor noBound = noBound
 trustFloor (between l u) = between l 2000
 
 -- the node wrapped in ensure trust; bare under none
-abbrev pub wrap : Bound → Node → Node
+abbrev pub wrap : TrustBound → Node → Node
 wrap noBound q = q
 wrap (between l u) q = ensureTrust l u q
 
--- wrapped only if u is below 1000
-abbrev pub wrapBelow : Bound → Node → Node
+-- wrapped only if u is below 1000; bare under none
+abbrev pub wrapBelow : TrustBound → Node → Node
 wrapBelow noBound q = q
 wrapBelow (between l u) q = cond (ltb u 2000) (ensureTrust l u q) q
 
-unfoldable pub push : Bound → Node → Node
+unfoldable pub push : TrustBound → Node → Node
 push b (patternSet ps) = wrap b (patternSet ps)
 push b (join x y) = wrapBelow b (join (push (trustFloor b) x) (push (trustFloor b) y))
 push b (leftJoin c x y) = wrap b (leftJoin c (push (trustFloor b) x) (push noBound y))

@@ -3,7 +3,7 @@
 use mathlib.Core.List.{List}
 use Prim.Native.Nat.{ℕ}
 
--- a place of a pattern
+-- what stands at the subject, predicate or object of a pattern
 pub data Slot : Type 0 where
   aTerm : ℕ → Slot
   aVariable : ℕ → Slot

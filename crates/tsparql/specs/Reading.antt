@@ -35,7 +35,7 @@ kindOf s = getD s 0 0 / 16
 abbrev pub lowOf : List ℕ → ℕ
 lowOf s = getD s 0 0 % 16
 
--- n is 0, where it has no meaning
+-- n is 0, as it must be where it is not named
 abbrev pub lowZero : List ℕ → Bool
 lowZero s = eqb (lowOf s) 0
 
@@ -166,7 +166,7 @@ wholeQuery s q next = cond (eqb next (length s)) (got q next) (fault next)
 unfoldable pub readQuery : List ℕ → Read Node
 readQuery s = andThen 0 (readNode s) (wholeQuery s)
 
--- the node of a query that has no fault
+-- the node of a query that has no fault; the empty set stands in where there is one, and no call uses it
 abbrev pub foundNode : Read Node → Node
 foundNode (got q n) = q
 foundNode (fault p) = patternSet []

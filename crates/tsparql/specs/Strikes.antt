@@ -28,7 +28,7 @@ unfoldable pub digits : ℕ → ℕ → List ℕ
 digits zero n = []
 digits (suc k) n = let rest = digits k (n / 10) in cond (ltb n 10) ((48 + n) ∷ []) (rest ++ ((48 + n % 10) ∷ []))
 
--- a number has no more digits than itself and one more (the law `decimal-step` says it without the bound)
+-- n has at most n + 1 digits (the law `decimal-step` says it without the bound)
 unfoldable pub decimal : ℕ → List ℕ
 decimal n = digits (suc n) n
 

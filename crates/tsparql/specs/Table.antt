@@ -65,15 +65,15 @@ factOf x =
 -- ---- a sound record
 
 -- no term is 0
-abbrev pub termsSound : ℕ → Bool
-termsSound x = not (eqb (subjectOf x) 0) && not (eqb (predicateOf x) 0) && not (eqb (objectOf x) 0)
+abbrev pub termsNonzero : ℕ → Bool
+termsNonzero x = not (eqb (subjectOf x) 0) && not (eqb (predicateOf x) 0) && not (eqb (objectOf x) 0)
 
 -- the trust field is at most 2000, and 0 beside a known bit of 0
 abbrev pub trustSound : ℕ → Bool
 trustSound x = leb (trustField x) 2000 && (eqb (knownBit x) 1 || eqb (trustField x) 0)
 
 abbrev pub recordSound : ℕ → Bool
-recordSound x = termsSound x && trustSound x
+recordSound x = termsNonzero x && trustSound x
 
 -- f stands below g: by subject, then predicate, then object
 unfoldable pub below : Fact → Fact → Bool
@@ -84,7 +84,7 @@ below f g =
 
 -- ---- what a call sees of a table
 
--- today: how many records there are
+-- how many records, from the first
 pub record View : Type 0 where
   pub records : ℕ
 
@@ -92,7 +92,7 @@ pub record View : Type 0 where
 abbrev pub wholeTable : List ℕ → View
 wholeTable t = record { records = length t / recordLength }
 
--- the facts of record i: one, or none where the view passes the record over (today it passes over none)
+-- what a view shows of record i: a list of one fact
 unfoldable pub factAt : View → List ℕ → ℕ → List Fact
 factAt v t i = factOf (recordAt t i) ∷ []
 
