@@ -1,0 +1,35 @@
+-- What the answers of this crate's code mean in the terms of the definitions: the fields of a record, and what the check of a table
+-- answers. Each promise that has two parts is a record with two named fields. Assumes nothing.
+use mathlib.Core.Path.{_≡_}
+use mathlib.Core.Bool.{cond}
+use mathlib.Core.List.{List}
+use Prim.Native.Nat.{ℕ, _/_, _%_, _^_}
+use Rattle.tsparql.specs.Table.{View, wholeTable}
+use Rattle.tsparql.specs.Check.{Refusal, refuse, noRefusal, passes, tableRefusal}
+use Rattle.table.specs.declared.Fields.{Fields}
+use Rattle.table.specs.declared.TableAnswer.{TableAnswer}
+use Rattle.table.specs.declared.TableAnswer.the-variants.{Sound, Refused}
+
+-- the fields of the record that is the number x: 60 bits of subject, predicate and object, 12 bits of known bit and trust field
+pub record FieldsOf (x : ℕ) (f : Fields) : Type 0 where
+  pub key : f .key ≡ x / 2 ^ 12
+  pub trust : f .trust ≡ x % 2 ^ 12
+
+-- nothing of a table
+abbrev pub noRecords : View
+noRecords = record { records = 0 }
+
+-- what the answer lets a call see
+abbrev pub viewIn : TableAnswer → View
+viewIn (Sound v) = record { records = v .records }
+viewIn (Refused n p) = noRecords
+
+-- the refusal that the answer names
+abbrev pub refusalIn : TableAnswer → Refusal
+refusalIn (Sound v) = noRefusal
+refusalIn (Refused n p) = refuse n p
+
+-- the answer names the table's refusal, and lets a call see the whole table where there is none
+pub record Checked (t : List ℕ) (r : TableAnswer) : Type 0 where
+  pub refusal : refusalIn r ≡ tableRefusal t
+  pub view : viewIn r ≡ cond (passes (tableRefusal t)) (wholeTable t) noRecords
