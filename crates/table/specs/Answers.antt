@@ -1,7 +1,7 @@
 -- What the answers of this crate's code mean in the terms of the definitions: the fields of a record, and what the check of a table
--- answers. Each promise that has two parts is a record with two named fields. Assumes nothing.
+-- answers. A promise in several parts is a record. Assumes nothing.
 use mathlib.Core.Path.{_≡_}
-use mathlib.Core.Bool.{cond}
+use mathlib.Core.Bool.{Bool, true, false, cond}
 use mathlib.Core.List.{List}
 use Prim.Native.Nat.{ℕ, _/_, _%_, _^_}
 use Rattle.tsparql.specs.Table.{View, wholeTable}
@@ -24,12 +24,18 @@ abbrev pub viewIn : TableAnswer → View
 viewIn (Sound v) = record { records = v .records }
 viewIn (Refused n p) = noRecords
 
+-- the answer is that the table passes
+abbrev pub soundIn : TableAnswer → Bool
+soundIn (Sound v) = true
+soundIn (Refused n p) = false
+
 -- the refusal that the answer names
 abbrev pub refusalIn : TableAnswer → Refusal
 refusalIn (Sound v) = noRefusal
 refusalIn (Refused n p) = refuse n p
 
--- the answer names the table's refusal, and lets a call see the whole table where there is none
+-- the answer names the table's refusal, and lets a call see the whole table exactly where there is none
 pub record Checked (t : List ℕ) (r : TableAnswer) : Type 0 where
+  pub sound : soundIn r ≡ passes (tableRefusal t)
   pub refusal : refusalIn r ≡ tableRefusal t
   pub view : viewIn r ≡ cond (passes (tableRefusal t)) (wholeTable t) noRecords
