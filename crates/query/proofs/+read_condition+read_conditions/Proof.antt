@@ -1,0 +1,285 @@
+-- A condition and its operands call each other: the measure is four times the bytes left, and above that 3 for the condition, or how
+-- many operands are left. The answers are put together by the laws of ConditionParts. Assumes nothing.
+use mathlib.Core.Path.{_≡_, sym, ap, _∙_}
+use native.Mathlib.Omega.{arith}
+use Rattle.tsparql.specs.Reading.{got, fault, readCondition}
+use Rattle.query.specs.Answers.{conditionHead, conditionFound, placeFound, faultIn}
+use Rattle.query.specs.Parts.{mapRead, conditionHeadRead, conditionsFrom}
+use Rattle.query.proofs.ReadLaws.{part-drop, placeOf, faultIn-≤, head-fault, operands-fault, operands-got, place-part}
+use Rattle.query.proofs.ConditionParts.{conditionsAfter, condition-parts, condition-inside}
+use Rattle.query.proofs.ConditionParts.{condition-head-inside, conditions-fault, conditions-next}
+use borrow.Author.Needs.{needs}
+use lib.ListN.{length}
+use Prim.Native.Nat.{_+_, _*_}
+use Prim.Native.Nat.{ℕ, _<_}
+use borrow.Fn.Kinds.{In}
+use borrow.Fn.PlainCycle.{Measures, is, falls, and}
+use Rattle.query.proofs.read_condition.Reads as read-condition
+use Rattle.query.proofs.read_condition.Kinds as read-condition-kinds
+use Rattle.query.proofs.+read_condition+read_conditions.Lts-read_condition as read-condition-lts
+use Rattle.query.proofs.read_conditions.Reads as read-conditions
+use Rattle.query.proofs.read_conditions.Kinds as read-conditions-kinds
+use Rattle.query.proofs.+read_condition+read_conditions.Lts-read_conditions as read-conditions-lts
+use Rattle.query.proofs.condition_fault.Reads as condition-fault-reads
+use Rattle.query.proofs.condition_operands.Reads as condition-operands-reads
+use Rattle.query.proofs.place_fault.Reads as place-fault-reads
+use Rattle.query.proofs.read_condition_head.Reads as read-condition-head-reads
+use Rattle.query.proofs.+read_condition+read_conditions.{statement}
+use Rattle.query.proofs.+read_condition+read_conditions.Tie.{close}
+
+abbrev μ-read-condition : Measures 1 read-condition-kinds.ps ℕ
+μ-read-condition κs a = 4 * length (a .0 .now) + 3
+
+abbrev μ-read-conditions : Measures 1 read-conditions-kinds.ps ℕ
+μ-read-conditions κs a = 4 * length (a .0 .now) + a .1 .1 .0
+
+abbrev read-condition-at : ℕ → In 1 read-condition-kinds.ps
+read-condition-at t =
+    and
+    1
+    read-condition-kinds.ps
+    (is 1 read-condition-kinds.ps μ-read-condition t)
+    read-condition.Pre
+
+abbrev read-condition-below : ℕ → In 1 read-condition-kinds.ps
+read-condition-below t =
+    and
+    1
+    read-condition-kinds.ps
+    (falls 1 read-condition-kinds.ps _<_ μ-read-condition t)
+    read-condition.Pre
+
+abbrev read-conditions-at : ℕ → In 1 read-conditions-kinds.ps
+read-conditions-at t =
+    and
+    1
+    read-conditions-kinds.ps
+    (is 1 read-conditions-kinds.ps μ-read-conditions t)
+    read-conditions.Pre
+
+abbrev read-conditions-below : ℕ → In 1 read-conditions-kinds.ps
+read-conditions-below t =
+    and
+    1
+    read-conditions-kinds.ps
+    (falls 1 read-conditions-kinds.ps _<_ μ-read-conditions t)
+    read-conditions.Pre
+
+abbrev read-condition-calls : ℕ → read-condition-lts.Claims
+read-condition-calls t = (
+  read-condition-head-reads.Asked,
+  read-condition-head-reads.Learnt,
+  condition-operands-reads.Asked,
+  condition-operands-reads.Learnt,
+  read-conditions-below t,
+  read-conditions.Post,
+  place-fault-reads.Asked,
+  place-fault-reads.Learnt,
+)
+
+abbrev read-conditions-calls : ℕ → read-conditions-lts.Claims
+read-conditions-calls t = (
+  read-condition-below t,
+  read-condition.Post,
+  condition-fault-reads.Asked,
+  condition-fault-reads.Learnt,
+  read-conditions-below t,
+  read-conditions.Post,
+)
+
+read-condition-read-condition-head-requires :
+    (t : ℕ) → read-condition-lts.Need-read-condition-head-requires (read-condition-calls t) (read-condition-at t) read-condition.Post
+read-condition-read-condition-head-requires t c κs = search needs
+
+read-condition-enum-known-h : (t : ℕ) → read-condition-lts.Need-enum-known-h (read-condition-calls t)
+    (read-condition-at t) read-condition.Post
+read-condition-enum-known-h t c = search needs
+
+read-condition-enum-told : (t : ℕ) → read-condition-lts.Need-enum-told (read-condition-calls t) (read-condition-at t) read-condition.Post
+read-condition-enum-told t c = search needs
+
+read-condition-returns : (t : ℕ) → read-condition-lts.Need-returns (read-condition-calls t) (read-condition-at t) read-condition.Post
+read-condition-returns t c =
+    let s = c .before .before .before .before .args .q .now in
+    let bad : conditionHeadRead s ≡ fault _ =
+    sym (c .before .before .read-condition-head .ensures) ∙ ap conditionFound (c .enum-told .given .1) in
+    c .before .before .read-condition-head .ensures ∙ bad ∙ sym (head-fault _ _ (conditionsAfter s) (condition-parts s) _ bad)
+
+read-condition-condition-operands-requires :
+    (t : ℕ) → read-condition-lts.Need-condition-operands-requires (read-condition-calls t) (read-condition-at t) read-condition.Post
+read-condition-condition-operands-requires t c κs = search needs
+
+read-condition-read-conditions-requires :
+    (t : ℕ) → read-condition-lts.Need-read-conditions-requires (read-condition-calls t) (read-condition-at t) read-condition.Post
+read-condition-read-conditions-requires t c κs =
+    let s = c .before .before .before .before .before .before .args .q .now in
+    let found : conditionHeadRead s ≡ got _ _ =
+    sym (c .before .before .before .before .read-condition-head .ensures) ∙ ap conditionFound (c .before .before .h .given .1) in
+    let h = condition-head-inside s found in
+    let n = c .condition-operands .ensures in
+    (omega (arith, c .before .before .before .before .before .before .pre .0, n, h .2), (h .0, h .1, omega (arith, n, h .2)))
+
+read-condition-enum-known-e : (t : ℕ) → read-condition-lts.Need-enum-known-e (read-condition-calls t)
+    (read-condition-at t) read-condition.Post
+read-condition-enum-known-e t c = search needs
+
+read-condition-enum-told-2 : (t : ℕ) → read-condition-lts.Need-enum-told-2 (read-condition-calls t)
+    (read-condition-at t) read-condition.Post
+read-condition-enum-told-2 t c = search needs
+
+read-condition-place-fault-requires : (t : ℕ) → read-condition-lts.Need-place-fault-requires (read-condition-calls t)
+    (read-condition-at t) read-condition.Post
+read-condition-place-fault-requires t c κs = search needs
+
+read-condition-returns-2 : (t : ℕ) → read-condition-lts.Need-returns-2 (read-condition-calls t) (read-condition-at t) read-condition.Post
+read-condition-returns-2 t c =
+    let s = c .before .before .before .before .before .before .before .before .before .before .args .q .now in
+    let head = c .before .before .before .before .before .before .h .given .0 .0 in
+    let own = c .before .before .before .before .before .before .h .given .0 .1 .0 in
+    let found : conditionHeadRead s ≡ got _ _ =
+    sym (c .before .before .before .before .before .before .before .before .read-condition-head .ensures)
+    ∙ ap conditionFound (c .before .before .before .before .before .before .h .given .1) in
+    let n = c .before .before .before .before .condition-operands .ensures in
+    let told = ap placeFound (c .before .enum-told2 .given .1) in
+    let bad : conditionsAfter s head own ≡ fault _ =
+    ap (λ k. conditionsFrom k own s) (sym n) ∙ sym (c .before .before .before .read-conditions .ensures) ∙ told in
+    ap fault (c .place-fault .ensures ∙ ap faultIn told) ∙ sym (operands-fault _ _ (conditionsAfter s) (condition-parts s) _ _ _ found bad)
+
+read-condition-returns-3 : (t : ℕ) → read-condition-lts.Need-returns-3 (read-condition-calls t) (read-condition-at t) read-condition.Post
+read-condition-returns-3 t c =
+    let s = c .before .before .before .before .before .before .before .before .before .before .args .q .now in
+    let head = c .before .before .before .before .before .before .h .given .0 .0 in
+    let own = c .before .before .before .before .before .before .h .given .0 .1 .0 in
+    let found : conditionHeadRead s ≡ got _ _ =
+    sym (c .before .before .before .before .before .before .before .before .read-condition-head .ensures)
+    ∙ ap conditionFound (c .before .before .before .before .before .before .h .given .1) in
+    let n = c .before .before .before .before .condition-operands .ensures in
+    let told = ap placeFound (c .before .e .given .1) in
+    let good : conditionsAfter s head own ≡ got tt _ =
+    ap (λ k. conditionsFrom k own s) (sym n) ∙ sym (c .before .before .before .read-conditions .ensures) ∙ told in
+    sym (operands-got _ _ (conditionsAfter s) (condition-parts s) _ _ _ found good)
+
+read-conditions-returns : (t : ℕ) → read-conditions-lts.Need-returns (read-conditions-calls t) (read-conditions-at t) read-conditions.Post
+unfolding conditionsFrom
+read-conditions-returns t c = rw (c .if1 .taken)
+
+read-conditions-sub-read-condition : (t : ℕ) → read-conditions-lts.Need-sub-read-condition (read-conditions-calls t)
+    (read-conditions-at t) read-conditions.Post
+read-conditions-sub-read-condition t c = search needs
+
+read-conditions-part-read-condition-start :
+    (t : ℕ) → read-conditions-lts.Need-part-read-condition-start (read-conditions-calls t) (read-conditions-at t) read-conditions.Post
+read-conditions-part-read-condition-start t c = search needs
+
+read-conditions-part-read-condition-end :
+    (t : ℕ) → read-conditions-lts.Need-part-read-condition-end (read-conditions-calls t) (read-conditions-at t) read-conditions.Post
+read-conditions-part-read-condition-end t c = search needs
+
+read-conditions-read-condition-requires :
+    (t : ℕ) → read-conditions-lts.Need-read-condition-requires (read-conditions-calls t) (read-conditions-at t) read-conditions.Post
+read-conditions-read-condition-requires t c κs = search needs
+
+read-conditions-enum-known-c : (t : ℕ) → read-conditions-lts.Need-enum-known-c (read-conditions-calls t)
+    (read-conditions-at t) read-conditions.Post
+read-conditions-enum-known-c t c = search needs
+
+read-conditions-enum-told : (t : ℕ) → read-conditions-lts.Need-enum-told (read-conditions-calls t)
+    (read-conditions-at t) read-conditions.Post
+read-conditions-enum-told t c = search needs
+
+read-conditions-condition-fault-requires :
+    (t : ℕ) → read-conditions-lts.Need-condition-fault-requires (read-conditions-calls t) (read-conditions-at t) read-conditions.Post
+read-conditions-condition-fault-requires t c κs = search needs
+
+read-conditions-add-t12 : (t : ℕ) → read-conditions-lts.Need-add-t12 (read-conditions-calls t) (read-conditions-at t) read-conditions.Post
+read-conditions-add-t12 t c =
+    let s = c .before .before .before .before .before .before .before .args .q .now in
+    omega (
+      arith,
+      place-part conditionHead readCondition condition-inside s (c .before .before .before .before .before .before .before .args .at) _
+          (c .before .before .before .read-condition .ensures) (omega arith),
+      faultIn-≤ (conditionFound (c .before .before .before .read-condition .result)),
+      c .condition-fault .ensures,
+    )
+
+read-conditions-returns-2 : (t : ℕ) → read-conditions-lts.Need-returns-2 (read-conditions-calls t)
+    (read-conditions-at t) read-conditions.Post
+read-conditions-returns-2 t c =
+    let s = c .before .before .before .before .before .before .before .args .q .now in
+    let at = c .before .before .before .before .before .before .before .args .at in
+    let told = ap conditionFound (c .before .enum-told .given .1) in
+    let bad =
+    sym (ap (λ p. mapRead conditionHead (readCondition p)) (part-drop s at)) ∙ sym (c .before .before .before .read-condition .ensures)
+    ∙ told in
+    ap (λ p. fault (at + p)) (c .condition-fault .ensures ∙ ap faultIn told)
+    ∙ sym (conditions-fault s (c .before .before .before .before .before .before .before .args .n) at _ (omega arith) bad)
+
+read-conditions-add-read-conditions : (t : ℕ) → read-conditions-lts.Need-add-read-conditions (read-conditions-calls t)
+    (read-conditions-at t) read-conditions.Post
+read-conditions-add-read-conditions t c =
+    let s = c .before .before .before .before .before .before .before .args .q .now in
+    omega (
+      arith,
+      place-part conditionHead readCondition condition-inside s (c .before .before .before .before .before .before .before .args .at) _
+          (c .before .before .before .read-condition .ensures) (omega arith),
+      ap placeOf (ap conditionFound (c .before .c .given .1)),
+    )
+
+read-conditions-sub-read-conditions : (t : ℕ) → read-conditions-lts.Need-sub-read-conditions (read-conditions-calls t)
+    (read-conditions-at t) read-conditions.Post
+read-conditions-sub-read-conditions t c = search needs
+
+read-conditions-read-conditions-requires :
+    (t : ℕ) → read-conditions-lts.Need-read-conditions-requires (read-conditions-calls t) (read-conditions-at t) read-conditions.Post
+read-conditions-read-conditions-requires t c κs =
+    let s = c .before .before .before .before .before .before .before .args .q .now in
+    let inside =
+    place-part conditionHead readCondition condition-inside s (c .before .before .before .before .before .before .before .args .at) _
+    (c .before .before .before .read-condition .ensures) (omega arith) in
+    let k = ap placeOf (ap conditionFound (c .before .c .given .1)) in
+    (omega (arith, c .before .before .before .before .before .before .before .pre .0), (omega arith, omega (arith, inside, k), omega arith))
+
+read-conditions-returns-3 : (t : ℕ) → read-conditions-lts.Need-returns-3 (read-conditions-calls t)
+    (read-conditions-at t) read-conditions.Post
+read-conditions-returns-3 t c =
+    let s = c .before .before .before .before .before .before .before .before .args .q .now in
+    let at = c .before .before .before .before .before .before .before .before .args .at in
+    let found = sym (ap (λ p. mapRead conditionHead (readCondition p)) (part-drop s at))
+    ∙ sym (c .before .before .before .before .read-condition .ensures)
+    ∙ ap conditionFound (c .before .before .c .given .1) in
+    c .read-conditions .ensures
+    ∙ sym (conditions-next s (c .before .before .before .before .before .before .before .before .args .n) at _ _ (omega arith) found)
+
+pub +read-condition+read-conditions-spec : {M : Type 1} → statement M
++read-condition+read-conditions-spec =
+    close μ-read-condition μ-read-conditions (λ t. read-condition-lts.spec (read-condition-calls t)
+    (read-condition-at t)
+    read-condition.Post
+    (read-condition-read-condition-head-requires t)
+    (read-condition-enum-known-h t)
+    (read-condition-enum-told t)
+    (read-condition-returns t)
+    (read-condition-condition-operands-requires t)
+    (read-condition-read-conditions-requires t)
+    (read-condition-enum-known-e t)
+    (read-condition-enum-told-2 t)
+    (read-condition-place-fault-requires t)
+    (read-condition-returns-2 t)
+    (read-condition-returns-3 t))
+    λ t. read-conditions-lts.spec (read-conditions-calls t)
+    (read-conditions-at t)
+    read-conditions.Post
+    (read-conditions-returns t)
+    (read-conditions-sub-read-condition t)
+    (read-conditions-part-read-condition-start t)
+    (read-conditions-part-read-condition-end t)
+    (read-conditions-read-condition-requires t)
+    (read-conditions-enum-known-c t)
+    (read-conditions-enum-told t)
+    (read-conditions-condition-fault-requires t)
+    (read-conditions-add-t12 t)
+    (read-conditions-returns-2 t)
+    (read-conditions-add-read-conditions t)
+    (read-conditions-sub-read-conditions t)
+    (read-conditions-read-conditions-requires t)
+    (read-conditions-returns-3 t)

@@ -1,0 +1,292 @@
+-- A node and its operands call each other: the measure is four times the bytes left, and above that 3 for the node, or how many operands
+-- are left. The answers are put together by the laws of NodeParts. Assumes nothing.
+use mathlib.Core.Path.{_≡_, sym, ap, _∙_}
+use native.Mathlib.Omega.{arith}
+use Rattle.tsparql.specs.Reading.{got, fault, readNode}
+use Rattle.query.specs.Answers.{nodeHead, nodeFound, placeFound, faultIn}
+use Rattle.query.specs.Parts.{mapRead, nodeHeadRead, nodesFrom}
+use Rattle.query.proofs.ReadLaws.{part-drop, placeOf, faultIn-≤, head-fault, operands-fault, operands-got, place-part}
+use Rattle.query.proofs.NodeParts.{nodesAfter, node-parts, node-inside, node-head-inside, nodes-fault, nodes-next, before-inside}
+use Rattle.query.proofs.NodeParts.{nodesAfter-fault, nodesAfter-got}
+use borrow.Author.Needs.{needs}
+use lib.ListN.{length}
+use Prim.Native.Nat.{_+_, _*_}
+use Prim.Native.Nat.{ℕ, _<_}
+use borrow.Fn.Kinds.{In}
+use borrow.Fn.PlainCycle.{Measures, is, falls, and}
+use Rattle.query.proofs.read_node.Reads as read-node
+use Rattle.query.proofs.read_node.Kinds as read-node-kinds
+use Rattle.query.proofs.+read_node+read_nodes.Lts-read_node as read-node-lts
+use Rattle.query.proofs.read_nodes.Reads as read-nodes
+use Rattle.query.proofs.read_nodes.Kinds as read-nodes-kinds
+use Rattle.query.proofs.+read_node+read_nodes.Lts-read_nodes as read-nodes-lts
+use Rattle.query.proofs.before_operands.Reads as before-operands-reads
+use Rattle.query.proofs.node_fault.Reads as node-fault-reads
+use Rattle.query.proofs.node_operands.Reads as node-operands-reads
+use Rattle.query.proofs.place_fault.Reads as place-fault-reads
+use Rattle.query.proofs.read_head.Reads as read-head-reads
+use Rattle.query.proofs.+read_node+read_nodes.{statement}
+use Rattle.query.proofs.+read_node+read_nodes.Tie.{close}
+
+abbrev μ-read-node : Measures 1 read-node-kinds.ps ℕ
+μ-read-node κs a = 4 * length (a .0 .now) + 3
+
+abbrev μ-read-nodes : Measures 1 read-nodes-kinds.ps ℕ
+μ-read-nodes κs a = 4 * length (a .0 .now) + a .1 .1 .0
+
+abbrev read-node-at : ℕ → In 1 read-node-kinds.ps
+read-node-at t = and 1 read-node-kinds.ps (is 1 read-node-kinds.ps μ-read-node t) read-node.Pre
+
+abbrev read-node-below : ℕ → In 1 read-node-kinds.ps
+read-node-below t =
+    and 1 read-node-kinds.ps (falls 1 read-node-kinds.ps _<_ μ-read-node t) read-node.Pre
+
+abbrev read-nodes-at : ℕ → In 1 read-nodes-kinds.ps
+read-nodes-at t =
+    and 1 read-nodes-kinds.ps (is 1 read-nodes-kinds.ps μ-read-nodes t) read-nodes.Pre
+
+abbrev read-nodes-below : ℕ → In 1 read-nodes-kinds.ps
+read-nodes-below t =
+    and 1 read-nodes-kinds.ps (falls 1 read-nodes-kinds.ps _<_ μ-read-nodes t) read-nodes.Pre
+
+abbrev read-node-calls : ℕ → read-node-lts.Claims
+read-node-calls t = (
+  read-head-reads.Asked,
+  read-head-reads.Learnt,
+  before-operands-reads.Asked,
+  before-operands-reads.Learnt,
+  place-fault-reads.Asked,
+  place-fault-reads.Learnt,
+  node-operands-reads.Asked,
+  node-operands-reads.Learnt,
+  read-nodes-below t,
+  read-nodes.Post,
+)
+
+abbrev read-nodes-calls : ℕ → read-nodes-lts.Claims
+read-nodes-calls t =
+    (read-node-below t, read-node.Post, node-fault-reads.Asked, node-fault-reads.Learnt, read-nodes-below t, read-nodes.Post)
+
+read-node-read-head-requires : (t : ℕ) → read-node-lts.Need-read-head-requires (read-node-calls t) (read-node-at t) read-node.Post
+read-node-read-head-requires t c κs = search needs
+
+read-node-enum-known-h : (t : ℕ) → read-node-lts.Need-enum-known-h (read-node-calls t) (read-node-at t) read-node.Post
+read-node-enum-known-h t c = search needs
+
+read-node-enum-told : (t : ℕ) → read-node-lts.Need-enum-told (read-node-calls t) (read-node-at t) read-node.Post
+read-node-enum-told t c = search needs
+
+read-node-returns : (t : ℕ) → read-node-lts.Need-returns (read-node-calls t) (read-node-at t) read-node.Post
+read-node-returns t c =
+    let s = c .before .before .before .before .args .q .now in
+    let bad : nodeHeadRead s ≡ fault _ = sym (c .before .before .read-head .ensures) ∙ ap nodeFound (c .enum-told .given .1) in
+    c .before .before .read-head .ensures ∙ bad ∙ sym (head-fault _ _ (nodesAfter s) (node-parts s) _ bad)
+
+read-node-before-operands-requires : (t : ℕ) → read-node-lts.Need-before-operands-requires (read-node-calls t)
+    (read-node-at t) read-node.Post
+read-node-before-operands-requires t c κs =
+    let h =
+    node-head-inside (c .before .before .before .before .before .args .q .now)
+    (sym (c .before .before .before .read-head .ensures) ∙ ap nodeFound (c .before .h .given .1)) in
+    (h .0, h .1)
+
+read-node-enum-known-b : (t : ℕ) → read-node-lts.Need-enum-known-b (read-node-calls t) (read-node-at t) read-node.Post
+read-node-enum-known-b t c = search needs
+
+read-node-enum-told-2 : (t : ℕ) → read-node-lts.Need-enum-told-2 (read-node-calls t) (read-node-at t) read-node.Post
+read-node-enum-told-2 t c = search needs
+
+read-node-place-fault-requires : (t : ℕ) → read-node-lts.Need-place-fault-requires (read-node-calls t) (read-node-at t) read-node.Post
+read-node-place-fault-requires t c κs = search needs
+
+read-node-returns-2 : (t : ℕ) → read-node-lts.Need-returns-2 (read-node-calls t) (read-node-at t) read-node.Post
+read-node-returns-2 t c =
+    let s = c .before .before .before .before .before .before .before .before .before .args .q .now in
+    let head = c .before .before .before .before .before .h .given .0 .0 in
+    let own = c .before .before .before .before .before .h .given .0 .1 .0 in
+    let found : nodeHeadRead s ≡ got _ _ =
+    sym (c .before .before .before .before .before .before .before .read-head .ensures)
+    ∙ ap nodeFound (c .before .before .before .before .before .h .given .1) in
+    let told = ap placeFound (c .before .enum-told2 .given .1) in
+    let bad = nodesAfter-fault s head own _ (sym (c .before .before .before .before-operands .ensures) ∙ told) in
+    ap fault (c .place-fault .ensures ∙ ap faultIn told) ∙ sym (operands-fault _ _ (nodesAfter s) (node-parts s) _ _ _ found bad)
+
+read-node-node-operands-requires : (t : ℕ) → read-node-lts.Need-node-operands-requires (read-node-calls t) (read-node-at t) read-node.Post
+read-node-node-operands-requires t c κs = search needs
+
+read-node-read-nodes-requires : (t : ℕ) → read-node-lts.Need-read-nodes-requires (read-node-calls t) (read-node-at t) read-node.Post
+read-node-read-nodes-requires t c κs =
+    let s = c .before .before .before .before .before .before .before .before .before .before .args .q .now in
+    let head = c .before .before .before .before .before .before .h .given .0 .0 in
+    let own = c .before .before .before .before .before .before .h .given .0 .1 .0 in
+    let h =
+    node-head-inside s (sym (c .before .before .before .before .before .before .before .before .read-head .ensures)
+    ∙ ap nodeFound (c .before .before .before .before .before .before .h .given .1)) in
+    let inside = before-inside s head own (h .1) in
+    let at =
+    ap placeOf (sym (c .before .before .before .before .before-operands .ensures) ∙ ap placeFound (c .before .before .b .given .1)) in
+    let n = c .node-operands .ensures in (
+      omega (arith, c .before .before .before .before .before .before .before .before .before .before .pre .0, n, h .2),
+      (omega (arith, h .0, inside, at), omega (arith, inside, at), omega (arith, n, h .2)),
+    )
+
+read-node-enum-known-e : (t : ℕ) → read-node-lts.Need-enum-known-e (read-node-calls t) (read-node-at t) read-node.Post
+read-node-enum-known-e t c = search needs
+
+read-node-enum-told-3 : (t : ℕ) → read-node-lts.Need-enum-told-3 (read-node-calls t) (read-node-at t) read-node.Post
+read-node-enum-told-3 t c = search needs
+
+read-node-place-fault-requires-2 : (t : ℕ) → read-node-lts.Need-place-fault-requires-2 (read-node-calls t) (read-node-at t) read-node.Post
+read-node-place-fault-requires-2 t c κs = search needs
+
+read-node-returns-3 : (t : ℕ) → read-node-lts.Need-returns-3 (read-node-calls t) (read-node-at t) read-node.Post
+read-node-returns-3 t c =
+    let s =
+    c .before .before .before .before .before .before .before .before .before .before .before .before .before .before .args .q .now in
+    let head = c .before .before .before .before .before .before .before .before .before .before .h .given .0 .0 in
+    let own = c .before .before .before .before .before .before .before .before .before .before .h .given .0 .1 .0 in
+    let found : nodeHeadRead s ≡ got _ _ =
+    sym (c .before .before .before .before .before .before .before .before .before .before .before .before .read-head .ensures)
+    ∙ ap nodeFound (c .before .before .before .before .before .before .before .before .before .before .h .given .1) in
+    let at = c .before .before .before .before .before .before .b .given .0 .0 in
+    let begun =
+    nodesAfter-got s head own at (sym (c .before .before .before .before .before .before .before .before .before-operands .ensures)
+    ∙ ap placeFound (c .before .before .before .before .before .before .b .given .1)) in
+    let told = ap placeFound (c .before .enum-told3 .given .1) in
+    let bad =
+    begun ∙ ap (λ k. nodesFrom k at s) (sym (c .before .before .before .before .node-operands .ensures))
+    ∙ sym (c .before .before .before .read-nodes .ensures) ∙ told in
+    ap fault (c .place-fault2 .ensures ∙ ap faultIn told) ∙ sym (operands-fault _ _ (nodesAfter s) (node-parts s) _ _ _ found bad)
+
+read-node-returns-4 : (t : ℕ) → read-node-lts.Need-returns-4 (read-node-calls t) (read-node-at t) read-node.Post
+read-node-returns-4 t c =
+    let s =
+    c .before .before .before .before .before .before .before .before .before .before .before .before .before .before .args .q .now in
+    let head = c .before .before .before .before .before .before .before .before .before .before .h .given .0 .0 in
+    let own = c .before .before .before .before .before .before .before .before .before .before .h .given .0 .1 .0 in
+    let found : nodeHeadRead s ≡ got _ _ =
+    sym (c .before .before .before .before .before .before .before .before .before .before .before .before .read-head .ensures)
+    ∙ ap nodeFound (c .before .before .before .before .before .before .before .before .before .before .h .given .1) in
+    let at = c .before .before .before .before .before .before .b .given .0 .0 in
+    let begun =
+    nodesAfter-got s head own at (sym (c .before .before .before .before .before .before .before .before .before-operands .ensures)
+    ∙ ap placeFound (c .before .before .before .before .before .before .b .given .1)) in
+    let told = ap placeFound (c .before .e .given .1) in
+    let good =
+    begun ∙ ap (λ k. nodesFrom k at s) (sym (c .before .before .before .before .node-operands .ensures))
+    ∙ sym (c .before .before .before .read-nodes .ensures) ∙ told in
+    sym (operands-got _ _ (nodesAfter s) (node-parts s) _ _ _ found good)
+
+read-nodes-returns : (t : ℕ) → read-nodes-lts.Need-returns (read-nodes-calls t) (read-nodes-at t) read-nodes.Post
+unfolding nodesFrom
+read-nodes-returns t c = rw (c .if1 .taken)
+
+read-nodes-sub-read-node : (t : ℕ) → read-nodes-lts.Need-sub-read-node (read-nodes-calls t) (read-nodes-at t) read-nodes.Post
+read-nodes-sub-read-node t c = search needs
+
+read-nodes-part-read-node-start : (t : ℕ) → read-nodes-lts.Need-part-read-node-start (read-nodes-calls t) (read-nodes-at t) read-nodes.Post
+read-nodes-part-read-node-start t c = search needs
+
+read-nodes-part-read-node-end : (t : ℕ) → read-nodes-lts.Need-part-read-node-end (read-nodes-calls t) (read-nodes-at t) read-nodes.Post
+read-nodes-part-read-node-end t c = search needs
+
+read-nodes-read-node-requires : (t : ℕ) → read-nodes-lts.Need-read-node-requires (read-nodes-calls t) (read-nodes-at t) read-nodes.Post
+read-nodes-read-node-requires t c κs = search needs
+
+read-nodes-enum-known-c : (t : ℕ) → read-nodes-lts.Need-enum-known-c (read-nodes-calls t) (read-nodes-at t) read-nodes.Post
+read-nodes-enum-known-c t c = search needs
+
+read-nodes-enum-told : (t : ℕ) → read-nodes-lts.Need-enum-told (read-nodes-calls t) (read-nodes-at t) read-nodes.Post
+read-nodes-enum-told t c = search needs
+
+read-nodes-node-fault-requires : (t : ℕ) → read-nodes-lts.Need-node-fault-requires (read-nodes-calls t) (read-nodes-at t) read-nodes.Post
+read-nodes-node-fault-requires t c κs = search needs
+
+read-nodes-add-t12 : (t : ℕ) → read-nodes-lts.Need-add-t12 (read-nodes-calls t) (read-nodes-at t) read-nodes.Post
+read-nodes-add-t12 t c =
+    let s = c .before .before .before .before .before .before .before .args .q .now in
+    omega (
+      arith,
+      place-part nodeHead readNode node-inside s (c .before .before .before .before .before .before .before .args .at) _
+          (c .before .before .before .read-node .ensures) (omega arith),
+      faultIn-≤ (nodeFound (c .before .before .before .read-node .result)),
+      c .node-fault .ensures,
+    )
+
+read-nodes-returns-2 : (t : ℕ) → read-nodes-lts.Need-returns-2 (read-nodes-calls t) (read-nodes-at t) read-nodes.Post
+read-nodes-returns-2 t c =
+    let s = c .before .before .before .before .before .before .before .args .q .now in
+    let at = c .before .before .before .before .before .before .before .args .at in
+    let told = ap nodeFound (c .before .enum-told .given .1) in
+    let bad = sym (ap (λ p. mapRead nodeHead (readNode p)) (part-drop s at)) ∙ sym (c .before .before .before .read-node .ensures) ∙ told in
+    ap (λ p. fault (at + p)) (c .node-fault .ensures ∙ ap faultIn told)
+    ∙ sym (nodes-fault s (c .before .before .before .before .before .before .before .args .n) at _ (omega arith) bad)
+
+read-nodes-add-read-nodes : (t : ℕ) → read-nodes-lts.Need-add-read-nodes (read-nodes-calls t) (read-nodes-at t) read-nodes.Post
+read-nodes-add-read-nodes t c =
+    let s = c .before .before .before .before .before .before .before .args .q .now in
+    omega (
+      arith,
+      place-part nodeHead readNode node-inside s (c .before .before .before .before .before .before .before .args .at) _
+          (c .before .before .before .read-node .ensures) (omega arith),
+      ap placeOf (ap nodeFound (c .before .c .given .1)),
+    )
+
+read-nodes-sub-read-nodes : (t : ℕ) → read-nodes-lts.Need-sub-read-nodes (read-nodes-calls t) (read-nodes-at t) read-nodes.Post
+read-nodes-sub-read-nodes t c = search needs
+
+read-nodes-read-nodes-requires : (t : ℕ) → read-nodes-lts.Need-read-nodes-requires (read-nodes-calls t) (read-nodes-at t) read-nodes.Post
+read-nodes-read-nodes-requires t c κs =
+    let s = c .before .before .before .before .before .before .before .args .q .now in
+    let inside =
+    place-part nodeHead readNode node-inside s (c .before .before .before .before .before .before .before .args .at) _
+    (c .before .before .before .read-node .ensures) (omega arith) in
+    let k = ap placeOf (ap nodeFound (c .before .c .given .1)) in
+    (omega (arith, c .before .before .before .before .before .before .before .pre .0), (omega arith, omega (arith, inside, k), omega arith))
+
+read-nodes-returns-3 : (t : ℕ) → read-nodes-lts.Need-returns-3 (read-nodes-calls t) (read-nodes-at t) read-nodes.Post
+read-nodes-returns-3 t c =
+    let s = c .before .before .before .before .before .before .before .before .args .q .now in
+    let at = c .before .before .before .before .before .before .before .before .args .at in
+    let found = sym (ap (λ p. mapRead nodeHead (readNode p)) (part-drop s at)) ∙ sym (c .before .before .before .before .read-node .ensures)
+    ∙ ap nodeFound (c .before .before .c .given .1) in
+    c .read-nodes .ensures ∙ sym (nodes-next s (c .before .before .before .before .before .before .before .before .args .n) at _ _
+    (omega arith) found)
+
+pub +read-node+read-nodes-spec : {M : Type 1} → statement M
++read-node+read-nodes-spec = close μ-read-node μ-read-nodes (λ t. read-node-lts.spec (read-node-calls t)
+    (read-node-at t)
+    read-node.Post
+    (read-node-read-head-requires t)
+    (read-node-enum-known-h t)
+    (read-node-enum-told t)
+    (read-node-returns t)
+    (read-node-before-operands-requires t)
+    (read-node-enum-known-b t)
+    (read-node-enum-told-2 t)
+    (read-node-place-fault-requires t)
+    (read-node-returns-2 t)
+    (read-node-node-operands-requires t)
+    (read-node-read-nodes-requires t)
+    (read-node-enum-known-e t)
+    (read-node-enum-told-3 t)
+    (read-node-place-fault-requires-2 t)
+    (read-node-returns-3 t)
+    (read-node-returns-4 t))
+    λ t. read-nodes-lts.spec (read-nodes-calls t)
+    (read-nodes-at t)
+    read-nodes.Post
+    (read-nodes-returns t)
+    (read-nodes-sub-read-node t)
+    (read-nodes-part-read-node-start t)
+    (read-nodes-part-read-node-end t)
+    (read-nodes-read-node-requires t)
+    (read-nodes-enum-known-c t)
+    (read-nodes-enum-told t)
+    (read-nodes-node-fault-requires t)
+    (read-nodes-add-t12 t)
+    (read-nodes-returns-2 t)
+    (read-nodes-add-read-nodes t)
+    (read-nodes-sub-read-nodes t)
+    (read-nodes-read-nodes-requires t)
+    (read-nodes-returns-3 t)

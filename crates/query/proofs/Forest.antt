@@ -1,0 +1,274 @@
+-- Nodes one behind the other. A node that was read is its head, what stands before its operands, and its operands, read one behind the
+-- other (`node-found`); so a walk from head to head passes every node in prefix order (`forest-step`). Assumes nothing.
+use mathlib.Core.Path.{_≡_, refl, sym, ap, _∙_}
+use mathlib.Core.Bool.{Bool, true, false, _&&_}
+use mathlib.Core.List.{List, [], _∷_, _++_}
+use Prim.Native.Nat.{ℕ, _+_, _/_, _%_, _≤_, _<_}
+use native.Mathlib.Nat.{add-assoc}
+use native.Mathlib.Omega.{arith}
+use borrow.Author.Tests.{ne-eqb}
+use lib.Dec.{eqb, leb}
+use lib.ListN.{length, drop, length-drop}
+use lib.Seq.{drop-drop}
+use Rattle.tsparql.specs.Query.{Pattern, Condition, Node, patternSet, join, leftJoin, union, filter, projectTrust, ensureTrust}
+use Rattle.tsparql.specs.Reading.{Read, got, fault, andThen, require, kindOf, lowOf, bits24, readPatterns, readCondition}
+use Rattle.tsparql.specs.Reading.{oneNode, twoNodes, afterCondition, boundedNode, nodeStep, readNode}
+use Rattle.tsparql.proofs.QuerySize.{conditionSize, nodeSize, nodeSize-positive}
+use Rattle.tsparql.proofs.ReaderSteps.{readNode-step}
+use Rattle.tsparql.proofs.WrittenRead.{ReadsCondition, readCondition-sound, ReadsNode}
+use Rattle.tsparql.proofs.WrittenRead.{readNode-sound, PatternsFormed, Reads, readPatterns-sound}
+use Rattle.tsparql.specs.Lists.{concatMap}
+use Rattle.tsparql.specs.Writing.{patternBytes}
+use Rattle.query.specs.declared.Head.{Head}
+use Rattle.query.specs.declared.Head.the-variants as H
+use Rattle.query.specs.Answers.{nodeHead}
+use Rattle.query.specs.Parts.{conditionsFrom, nodeHeadRead, beforeOperands}
+use Rattle.query.proofs.ReadLaws.{by-kind}
+use Rattle.query.proofs.NodeParts.{one-condition}
+
+-- ---- nodes one behind the other
+
+-- from a place to an end these nodes are read
+abbrev pub ReadsAll : List ℕ → ℕ → List Node → ℕ → Type 0
+ReadsAll s at [] end = at ≡ end
+ReadsAll s at (x ∷ xs) end = (m : ℕ) × (readNode (drop at s) ≡ got x m) × ReadsAll s (at + m) xs end
+
+abbrev pub operandsIn : Node → List Node
+operandsIn (patternSet ps) = []
+operandsIn (join x y) = x ∷ y ∷ []
+operandsIn (leftJoin c x y) = x ∷ y ∷ []
+operandsIn (union x y) = x ∷ y ∷ []
+operandsIn (filter c x) = x ∷ []
+operandsIn (projectTrust v x) = x ∷ []
+operandsIn (ensureTrust l u x) = x ∷ []
+
+-- where a node's operands begin
+abbrev pub operandsAt : Node → ℕ → ℕ
+operandsAt (patternSet ps) m = m
+operandsAt (join x y) m = 1
+operandsAt (leftJoin c x y) m = 1 + conditionSize c
+operandsAt (union x y) m = 1
+operandsAt (filter c x) m = 1 + conditionSize c
+operandsAt (projectTrust v x) m = 1
+operandsAt (ensureTrust l u x) m = 4
+
+-- a pattern set's patterns are read behind its head
+abbrev pub PatternsRead : List ℕ → ℕ → Node → Type 0
+PatternsRead s own (patternSet ps) = (m : ℕ) × (readPatterns (length ps) (drop own s) ≡ got ps m)
+PatternsRead s own (join x y) = Unit {0}
+PatternsRead s own (leftJoin c x y) = Unit {0}
+PatternsRead s own (union x y) = Unit {0}
+PatternsRead s own (filter c x) = Unit {0}
+PatternsRead s own (projectTrust v x) = Unit {0}
+PatternsRead s own (ensureTrust l u x) = Unit {0}
+
+-- the parts of a node x that was read, with its end
+pub record NodeFound (s : List ℕ) (x : Node) (end : ℕ) : Type 0 where
+  pub own : ℕ
+  pub head-is : nodeHeadRead s ≡ got (nodeHead x) own
+  pub before-is : beforeOperands s (nodeHead x) own ≡ got tt (operandsAt x end)
+  pub operands-are : ReadsAll s (operandsAt x end) (operandsIn x) end
+  pub patterns-are : PatternsRead s own x
+
+-- ---- a read that found something found its parts
+
+one-found : (s : List ℕ) (at : ℕ) (f : Node → Node) (x : Node) (n : ℕ) → oneNode readNode s at f ≡ got x n
+    → (a : Node) × (x ≡ f a) × ReadsAll s at (a ∷ []) n
+one-found s at f x n e = go (readNode (drop at s)) refl e
+  where
+    go : (r : Read Node) → readNode (drop at s) ≡ r → andThen at r (λ a next. got (f a) next) ≡ got x n
+        → (a : Node) × (x ≡ f a) × ReadsAll s at (a ∷ []) n
+    go (got a m) h d = (a, cc, (m, h, cc))
+    go (fault p) h d = absurd (let z : _≡_ {A = ℕ} 0 1 = cc in omega arith)
+
+two-found : (s : List ℕ) (at : ℕ) (f : Node → Node → Node) (x : Node) (n : ℕ) → twoNodes readNode s at f ≡ got x n
+    → (a : Node) × (b : Node) × (x ≡ f a b) × ReadsAll s at (a ∷ b ∷ []) n
+two-found s at f x n e = go (readNode (drop at s)) refl e
+  where
+    go : (r : Read Node) → readNode (drop at s) ≡ r → andThen at r (λ a mid. oneNode readNode s mid (f a)) ≡ got x n
+        → (a : Node) × (b : Node) × (x ≡ f a b) × ReadsAll s at (a ∷ b ∷ []) n
+    go (got a m) h d =
+        let rest = one-found s (at + m) (f a) x n d in
+        (a, rest .0, rest .1, (m, h, rest .2))
+    go (fault p) h d = absurd (let z : _≡_ {A = ℕ} 0 1 = cc in omega arith)
+
+-- a condition was read, of its size
+condition-found : (s : List ℕ) (k : Condition → ℕ → Read Node) (x : Node) (n : ℕ) → afterCondition s k ≡ got x n
+    → (c : Condition) × (readCondition (drop 1 s) ≡ got c (conditionSize c)) × (k c (1 + conditionSize c) ≡ got x n)
+condition-found s k x n e = go (readCondition (drop 1 s)) refl (readCondition-sound (drop 1 s)) e
+  where
+    go : (r : Read Condition) → readCondition (drop 1 s) ≡ r → ReadsCondition (drop 1 s) r → andThen 1 r k ≡ got x n
+        → (c : Condition) × (readCondition (drop 1 s) ≡ got c (conditionSize c)) × (k c (1 + conditionSize c) ≡ got x n)
+    go (got c m) h w d = (c, h ∙ ap (got c) (w .1 .size), rw (w .1 .size) at d)
+    go (fault p) h w d = absurd (let z : _≡_ {A = ℕ} 0 1 = cc in omega arith)
+
+-- the place behind it
+condition-before : (s : List ℕ) (c : Condition) → readCondition (drop 1 s) ≡ got c (conditionSize c)
+    → conditionsFrom 1 1 s ≡ got tt (1 + conditionSize c)
+condition-before s c e = one-condition s 1 ∙ rw e
+
+require-found : {A : Type 0} (b : Bool) (r : Read A) (x : A) (n : ℕ) → require b r ≡ got x n → (b ≡ true) × (r ≡ got x n)
+require-found true r x n e = (refl, e)
+require-found false r x n e = absurd (let z : _≡_ {A = ℕ} 0 1 = cc in omega arith)
+
+set-found : (s : List ℕ) (k : ℕ) (x : Node) (n : ℕ) → nodeHeadRead s ≡ got (H.PatternSet k) 1
+    → andThen 1 (readPatterns k (drop 1 s)) (λ ps next. got (patternSet ps) next) ≡ got x n → NodeFound s x n
+set-found s k x n head e = go (readPatterns k (drop 1 s)) refl (readPatterns-sound k (drop 1 s)) e
+  where
+    go : (r : Read (List Pattern)) → readPatterns k (drop 1 s) ≡ r → Reads (PatternsFormed k) (concatMap patternBytes) (drop 1 s) r
+        → andThen 1 r (λ ps next. got (patternSet ps) next) ≡ got x n → NodeFound s x n
+    go (got ps m) h w d =
+        let is : x ≡ patternSet ps = cc in
+        let end : 1 + m ≡ n = cc in
+        let count : length ps ≡ k = w .0 .0 in
+        rw (is, ← end)
+        (record {
+          own = 1;
+          head-is = head ∙ rw count;
+          before-is = rw (count, h);
+          operands-are = refl;
+          patterns-are = (m, rw count h);
+        })
+    go (fault p) h w d = absurd (let z : _≡_ {A = ℕ} 0 1 = cc in omega arith)
+
+-- ---- a node that was read
+
+module _ (s : List ℕ) (x : Node) (n : ℕ) where
+  -- two operands behind a first byte
+  two-operands : (h : Head) (f : Node → Node → Node) → nodeHeadRead s ≡ got h 1
+      → ((a b : Node) → (nodeHead (f a b) ≡ h) × (beforeOperands s (nodeHead (f a b)) 1 ≡ got tt 1)
+      × (operandsIn (f a b) ≡ a ∷ b ∷ []) × (operandsAt (f a b) n ≡ 1) × PatternsRead s 1 (f a b))
+      → twoNodes readNode s 1 f ≡ got x n → NodeFound s x n
+  two-operands h f head g e =
+      let parts = two-found s 1 f x n e in
+      let w = g (parts .0) (parts .1) in
+      rw (parts .2)
+      (record {
+        own = 1;
+        head-is = head ∙ rw (w .0);
+        before-is = w .1 ∙ rw (w .3);
+        operands-are = rw (w .2, w .3) (parts .3);
+        patterns-are = w .4;
+      })
+
+  node-found-step : nodeStep readNode s ≡ got x n → NodeFound s x n
+  unfolding nodeStep nodeHeadRead
+  node-found-step e = start (eqb (length s) 0) refl
+    where
+      other : 8 ≤ kindOf s → (i : ℕ) → i < 8 → eqb (kindOf s) i ≡ false
+      other h i l = ne-eqb (kindOf s) i (λ z. omega arith)
+
+      start : (b : Bool) → eqb (length s) 0 ≡ b → NodeFound s x n
+      start true d = absurd (let z : _≡_ {A = ℕ} 0 1 = cc (rw d at e) in omega arith)
+      start false d =
+          by-kind (kindOf s)
+          (λ k. set-found s (lowOf s) x n (rw (d, k)) (rw (d, k) at e))
+          (λ k.
+          let h = require-found (eqb (lowOf s) 0) (twoNodes readNode s 1 join) x n (rw (d, k) at e) in
+          two-operands H.Join join (rw (d, k, h .0)) (λ a b. (refl, refl, refl, refl, tt)) (h .1))
+          (λ k.
+          let h = require-found (eqb (lowOf s) 0) (afterCondition s (λ c at. twoNodes readNode s at (leftJoin c))) x n (rw (d, k) at e) in
+          let c = condition-found s (λ c at. twoNodes readNode s at (leftJoin c)) x n (h .1) in
+          let parts = two-found s (1 + conditionSize (c .0)) (leftJoin (c .0)) x n (c .2) in
+          rw (parts .2)
+          (record {
+            own = 1;
+            head-is = rw (d, k, h .0);
+            before-is = condition-before s (c .0) (c .1);
+            operands-are = parts .3;
+            patterns-are = tt;
+          }))
+          (λ k.
+          let h = require-found (eqb (lowOf s) 0) (twoNodes readNode s 1 union) x n (rw (d, k) at e) in
+          two-operands H.Union union (rw (d, k, h .0)) (λ a b. (refl, refl, refl, refl, tt)) (h .1))
+          (λ k.
+          let h = require-found (eqb (lowOf s) 0) (afterCondition s (λ c at. oneNode readNode s at (filter c))) x n (rw (d, k) at e) in
+          let c = condition-found s (λ c at. oneNode readNode s at (filter c)) x n (h .1) in
+          let parts = one-found s (1 + conditionSize (c .0)) (filter (c .0)) x n (c .2) in
+          rw (parts .1)
+          (record {
+            own = 1;
+            head-is = rw (d, k, h .0);
+            before-is = condition-before s (c .0) (c .1);
+            operands-are = parts .2;
+            patterns-are = tt;
+          }))
+          (λ k.
+          let parts = one-found s 1 (projectTrust (lowOf s)) x n (rw (d, k) at e) in
+          rw (parts .1)
+          (record { own = 1; head-is = rw (d, k); before-is = refl; operands-are = parts .2; patterns-are = tt }))
+          (λ k.
+          let h = require-found (eqb (lowOf s) 0) (boundedNode readNode s) x n (rw (d, k) at e) in
+          let lower = bits24 s 1 / 4096 in
+          let upper = bits24 s 1 % 4096 in
+          let g =
+          require-found (leb 4 (length s) && leb lower 2000 && leb upper 2000) (oneNode readNode s 4 (ensureTrust lower upper)) x n
+          (h .1) in
+          let parts = one-found s 4 (ensureTrust lower upper) x n (g .1) in
+          rw (parts .1)
+          (record { own = 4; head-is = rw (d, k, h .0, g .0); before-is = refl; operands-are = parts .2; patterns-are = tt }))
+          (λ k. absurd (let z : _≡_ {A = ℕ} 0 1 = cc (rw (d, k) at e) in omega arith))
+          (λ k.
+          absurd
+          (let z : _≡_ {A = ℕ} 0 1 =
+          cc (rw (
+            d,
+            other k 0 (omega arith),
+            other k 1 (omega arith),
+            other k 2 (omega arith),
+            other k 3 (omega arith),
+            other k 4 (omega arith),
+            other k 5 (omega arith),
+            other k 6 (omega arith),
+          ) at e) in
+          omega arith))
+
+-- a node that was read is its parts
+pub node-found : (s : List ℕ) (x : Node) (n : ℕ) → readNode s ≡ got x n → NodeFound s x n
+node-found s x n e = node-found-step s x n (sym (readNode-step s) ∙ e)
+
+-- ---- a walk from head to head
+
+-- its size is its next place
+pub read-size : (s : List ℕ) (x : Node) (n : ℕ) → readNode s ≡ got x n → n ≡ nodeSize x
+read-size s x n e = go (readNode s) e (readNode-sound s)
+  where
+    go : (r : Read Node) → r ≡ got x n → ReadsNode s r → n ≡ nodeSize x
+    go (got y m) d h = let is : y ≡ x = cc in let k : m ≡ n = cc in sym k ∙ h .1 .size ∙ ap nodeSize is
+    go (fault p) d h = absurd (let z : _≡_ {A = ℕ} 0 1 = cc in omega arith)
+
+readsAll-shift : (s : List ℕ) (by at : ℕ) (xs : List Node) (end : ℕ) → ReadsAll (drop by s) at xs end → ReadsAll s (by + at) xs (by + end)
+readsAll-shift s by at [] end h = ap (λ n. by + n) h
+readsAll-shift s by at (x ∷ xs) end h =
+    (h .0, ap readNode (sym (drop-drop at by s)) ∙ h .1, rw (add-assoc by at (h .0)) (readsAll-shift s by (at + h .0) xs end (h .2)))
+
+readsAll-append : (s : List ℕ) (at : ℕ) (xs ys : List Node) (mid end : ℕ) → ReadsAll s at xs mid → ReadsAll s mid ys end
+    → ReadsAll s at (xs ++ ys) end
+readsAll-append s at [] ys mid end h k = rw h k
+readsAll-append s at (x ∷ xs) ys mid end h k = (h .0, h .1, readsAll-append s (at + h .0) xs ys mid end (h .2) k)
+
+-- the head of the first node, and then its operands and the nodes behind it
+pub forest-step : (s : List ℕ) (at : ℕ) (x : Node) (xs : List Node) (end : ℕ) (h : ReadsAll s at (x ∷ xs) end)
+    → NodeFound (drop at s) x (h .0) × ReadsAll s (at + operandsAt x (h .0)) (operandsIn x ++ xs) end
+forest-step s at x xs end h =
+    let f = node-found (drop at s) x (h .0) (h .1) in (
+      f,
+      readsAll-append s (at + operandsAt x (h .0)) (operandsIn x) xs (at + h .0) end
+          (readsAll-shift s at (operandsAt x (h .0)) (operandsIn x) (h .0) (f .operands-are)) (h .2),
+    )
+
+-- at the end there is no node left
+pub forest-end : (s : List ℕ) (at : ℕ) (xs : List Node) → length s ≤ at → ReadsAll s at xs (length s) → xs ≡ []
+forest-end s at [] l h = refl
+forest-end s at (x ∷ xs) l h =
+    absurd (omega (
+      arith,
+      read-size (drop at s) x (h .0) (h .1),
+      nodeSize-positive x,
+      inside (readNode (drop at s)) (h .1) (readNode-sound (drop at s)),
+      length-drop at s,
+    ))
+  where
+    inside : (r : Read Node) → r ≡ got x (h .0) → ReadsNode (drop at s) r → h .0 ≤ length (drop at s)
+    inside (got y m) d w = let k : m ≡ h .0 = cc in omega (arith, w .1 .inside)
+    inside (fault p) d w = absurd (let z : _≡_ {A = ℕ} 0 1 = cc in omega arith)

@@ -1,0 +1,61 @@
+-- Patterns one behind the other, from a place on: the next one faults, or leaves those behind it. Assumes nothing.
+use mathlib.Core.Path.{_≡_, sym, ap}
+use mathlib.Core.Bool.{Bool, true, false, _&&_}
+use mathlib.Core.List.{List, _∷_}
+use Prim.Native.Nat.{ℕ, zero, suc, _+_, _-_, _≤_}
+use native.Mathlib.Nat.{add-zero, zero-add, add-assoc}
+use native.Mathlib.Omega.{arith}
+use lib.Dec.{leb}
+use lib.ListN.{length, take, drop, length-drop}
+use lib.Seq.{drop-drop}
+use Rattle.tsparql.specs.Query.{Pattern}
+use Rattle.tsparql.specs.Reading.{Read, got, fault, andThen, require, bits24, slotSound, slotOf, readPattern, readPatterns}
+use Rattle.tsparql.proofs.WrittenRead.{readPattern-sound, Reads}
+use Rattle.tsparql.specs.WellFormed.{PatternFormed}
+use Rattle.tsparql.specs.Writing.{patternBytes}
+use Rattle.query.specs.Parts.{placed, shift, patternsFrom}
+use Rattle.query.proofs.ReadLaws.{part-drop, placeOf}
+
+pub patterns-none : (s : List ℕ) (at n : ℕ) → n ≡ 0 → patternsFrom n at s ≡ got tt at
+unfolding readPatterns
+patterns-none s at n e = rw (e, add-zero at)
+
+pub patterns-next : (s : List ℕ) (at n k : ℕ) (x : Pattern) → 1 ≤ n → readPattern (drop at s) ≡ got x k
+    → patternsFrom n at s ≡ patternsFrom (n - 1) (at + k) s
+unfolding readPatterns
+patterns-next s at zero k x l e = absurd (omega arith)
+patterns-next s at (suc n) k x l e =
+    let one : suc n - 1 ≡ n = omega arith in
+    rw (e, one, zero-add k, drop-drop k at s) (go (readPatterns n (drop (at + k) s)))
+  where
+    go : (r : Read (List Pattern)) → placed (shift at (andThen k r (λ ps next. got (x ∷ ps) next))) ≡ placed (shift (at + k) r)
+    go (got ps n) = ap (got (tt {0})) (sym (add-assoc at k n))
+    go (fault p) = ap fault (sym (add-assoc at k p))
+
+-- a pattern's fault is at its start
+pattern-fault : (s : List ℕ) (p : ℕ) → readPattern s ≡ fault p → p ≡ 0
+unfolding readPattern
+pattern-fault s p e =
+    go (leb 9 (length s) && slotSound (bits24 s 0) && slotSound (bits24 s 3) && slotSound (bits24 s 6))
+    (record { subject = slotOf (bits24 s 0); predicate = slotOf (bits24 s 3); object = slotOf (bits24 s 6) }) e
+  where
+    go : (b : Bool) (x : Pattern) → require b (got x 9) ≡ fault p → p ≡ 0
+    go true x d = cc
+    go false x d = cc
+
+pub patterns-fault : (s : List ℕ) (at n p : ℕ) → 1 ≤ n → readPattern (drop at s) ≡ fault p → patternsFrom n at s ≡ fault at
+unfolding readPatterns
+patterns-fault s at zero p l e = absurd (omega arith)
+patterns-fault s at (suc n) p l e = rw (e, pattern-fault (drop at s) p e, add-zero at)
+
+pub pattern-inside : (s : List ℕ) → placeOf (readPattern s) ≤ length s
+pattern-inside s = go (readPattern s) (readPattern-sound s)
+  where
+    go : (r : Read Pattern) → Reads PatternFormed patternBytes s r → placeOf r ≤ length s
+    go (got p n) h = h .1 .inside
+    go (fault p) h = h
+
+-- the place behind a pattern that was read from a place on
+pub pattern-part : (s : List ℕ) (at : ℕ) (r : Read Pattern) → r ≡ readPattern (take (length s - at) (drop at s)) → at ≤ length s
+    → at + placeOf r ≤ length s
+pattern-part s at r e l = rw (e, part-drop s at) (omega (arith, pattern-inside (drop at s), length-drop at s))

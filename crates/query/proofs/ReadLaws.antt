@@ -1,0 +1,84 @@
+-- Laws of places: what was found through mapRead, shift and follow; a part of a slice is what drop leaves; a number by its cases.
+-- Assumes nothing.
+use mathlib.Core.Path.{_≡_, refl, _∙_}
+use mathlib.Core.Bool.{Bool, true, false, cond}
+use mathlib.Core.List.{List}
+use Prim.Native.Nat.{ℕ, zero, suc, _+_, _-_, _≤_}
+use native.Mathlib.Omega.{arith}
+use lib.ListN.{length, take, drop, length-drop}
+use lib.Seq.{take-all}
+use Rattle.tsparql.specs.Reading.{Read, got, fault, require}
+use Rattle.query.specs.Parts.{mapRead, shift, follow}
+use Rattle.query.specs.Answers.{faultIn}
+
+-- the list of the part of a slice from a place on
+pub part-drop : (s : List ℕ) (at : ℕ) → take (length s - at) (drop at s) ≡ drop at s
+part-drop s at = take-all (length s - at) (drop at s) (omega (arith, length-drop at s))
+
+-- what follows a fault, and what follows a find, where only the place matters
+module _ {A B : Type 0} (f : A → B) where
+  pub follow-fault : {C : Type 0} (at : ℕ) (r : Read A) (k : A → ℕ → Read C) (p : ℕ) → mapRead f r ≡ fault p
+      → follow (shift at r) k ≡ fault (at + p)
+  follow-fault at (got a n) k p e = cc
+  follow-fault at (fault q) k p e = let h : q ≡ p = cc in rw h
+
+  pub follow-got : {C : Type 0} (at : ℕ) (r : Read A) (k : ℕ → Read C) (h : B) (n : ℕ) → mapRead f r ≡ got h n
+      → follow (shift at r) (λ a m. k m) ≡ k (at + n)
+  follow-got at (got a m) k h n e = let g : m ≡ n = cc in rw g
+  follow-got at (fault q) k h n e = cc
+
+-- the place of what was found, fault or not
+abbrev pub placeOf : {A : Type 0} → Read A → ℕ
+placeOf (got a n) = n
+placeOf (fault p) = p
+
+pub placeOf-map : {A B : Type 0} (f : A → B) (r : Read A) → placeOf (mapRead f r) ≡ placeOf r
+placeOf-map f (got a n) = refl
+placeOf-map f (fault p) = refl
+
+pub faultIn-≤ : {A : Type 0} (r : Read A) → faultIn r ≤ placeOf r
+faultIn-≤ (got a n) = omega arith
+faultIn-≤ (fault p) = omega arith
+
+-- a number is one of 0 to 7, or above
+pub by-kind : {P : Type 0} (k : ℕ) → (k ≡ 0 → P) → (k ≡ 1 → P) → (k ≡ 2 → P) → (k ≡ 3 → P) → (k ≡ 4 → P) → (k ≡ 5 → P)
+    → (k ≡ 6 → P) → (k ≡ 7 → P) → (8 ≤ k → P) → P
+by-kind zero a b c d e f g h i = a refl
+by-kind (suc zero) a b c d e f g h i = b refl
+by-kind (suc (suc zero)) a b c d e f g h i = c refl
+by-kind (suc (suc (suc zero))) a b c d e f g h i = d refl
+by-kind (suc (suc (suc (suc zero)))) a b c d e f g h i = e refl
+by-kind (suc (suc (suc (suc (suc zero))))) a b c d e f g h i = f refl
+by-kind (suc (suc (suc (suc (suc (suc zero)))))) a b c d e f g h i = g refl
+by-kind (suc (suc (suc (suc (suc (suc (suc zero))))))) a b c d e f g h i = h refl
+by-kind (suc (suc (suc (suc (suc (suc (suc (suc k)))))))) a b c d e f g h i = i (omega arith)
+
+-- what holds of both branches
+module _ {A : Type 0} (P : Read A → Type 0) where
+  pub cond-cases : (b : Bool) (x y : Read A) → (b ≡ true → P x) → (b ≡ false → P y) → P (cond b x y)
+  cond-cases true x y f g = f refl
+  cond-cases false x y f g = g refl
+
+  pub require-cases : (b : Bool) (r : Read A) → P (fault 0) → (b ≡ true → P r) → P (require b r)
+  require-cases true r z f = f refl
+  require-cases false r z f = z
+
+-- what is read in parts: a head, and then what its operands leave
+module _ {H : Type 0} (X headR : Read H) (ops : H → ℕ → Read (Unit {0}))
+    (parts : X ≡ follow headR (λ h own. mapRead (λ _. h) (ops h own))) where
+  pub head-fault : (p : ℕ) → headR ≡ fault p → X ≡ fault p
+  head-fault p e = parts ∙ rw e
+
+  pub operands-fault : (h : H) (own p : ℕ) → headR ≡ got h own → ops h own ≡ fault p → X ≡ fault p
+  operands-fault h own p d e = parts ∙ rw (d, e)
+
+  pub operands-got : (h : H) (own n : ℕ) → headR ≡ got h own → ops h own ≡ got tt n → X ≡ got h n
+  operands-got h own n d e = parts ∙ rw (d, e)
+
+-- the place of what was read from a place on is inside the whole
+pub place-part : {A B : Type 0} (f : A → B) (read : List ℕ → Read A) → ((s : List ℕ) → placeOf (read s) ≤ length s)
+    → (s : List ℕ) (at : ℕ) (r : Read B) → r ≡ mapRead f (read (take (length s - at) (drop at s))) → at ≤ length s
+    → at + placeOf r ≤ length s
+place-part f read inside s at r e l =
+    let here : r ≡ mapRead f (read (drop at s)) = e ∙ rw (part-drop s at) in
+    rw (here, placeOf-map f (read (drop at s))) (omega (arith, inside (drop at s), length-drop at s))

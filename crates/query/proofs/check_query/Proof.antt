@@ -1,0 +1,101 @@
+-- By the length, the reader of the node, and the first clash. Assumes nothing.
+use mathlib.Core.Path.{sym, ap, _∙_}
+use native.Mathlib.Omega.{arith}
+use Rattle.tsparql.specs.Reading.{got, fault}
+use Rattle.query.specs.Answers.{nodeFound, faultIn}
+use Rattle.query.specs.declared.Clash.the-variants as C
+use Rattle.query.specs.Variables.{clashIn}
+use Rattle.query.proofs.Walk.{head-node, long-checked, fault-checked, surplus-checked, whole-sound, whole-checked}
+use borrow.Author.Needs.{needs}
+use Rattle.query.proofs.check_query.Statement.{statement}
+use Rattle.query.proofs.check_query.Tie as tie
+
+returns : tie.Need-returns
+returns c = long-checked (c .before .before .args .limit) (c .before .before .args .q .now) (omega arith)
+
+read-node-requires : tie.Need-read-node-requires
+read-node-requires c κs = search needs
+
+enum-known-r : tie.Need-enum-known-r
+enum-known-r c = search needs
+
+enum-told : tie.Need-enum-told
+enum-told c = search needs
+
+node-fault-requires : tie.Need-node-fault-requires
+node-fault-requires c κs = search needs
+
+returns-2 : tie.Need-returns-2
+returns-2 c =
+    let s = c .before .before .before .before .before .before .args .q .now in
+    let told = ap nodeFound (c .before .enum-told .given .1) in
+    let bad = head-node (fault _) s (sym told ∙ c .before .before .before .read-node .ensures) in
+    rw (c .node-fault .ensures ∙ ap faultIn told) (fault-checked (c .before .before .before .before .before .before .args .limit) _ s
+    (omega arith) bad)
+
+first-clash-requires : tie.Need-first-clash-requires
+first-clash-requires c κs =
+    let s = c .before .before .before .before .before .before .before .args .q .now in
+    let limit = c .before .before .before .before .before .before .before .args .limit in
+    let next = c .before .before .r .given .0 .1 .0 in
+    let node =
+    head-node (got (c .before .before .r .given .0 .0) next) s (sym (ap nodeFound (c .before .before .r .given .1))
+    ∙ c .before .before .before .before .read-node .ensures) in
+    whole-sound next s (node .0) (node .1) (c .if2 .taken)
+
+enum-known-clash : tie.Need-enum-known-clash
+enum-known-clash c = search needs
+
+enum-told-2 : tie.Need-enum-told-2
+enum-told-2 c = search needs
+
+returns-3 : tie.Need-returns-3
+returns-3 c =
+    let s = c .before .before .before .before .before .before .before .before .before .before .args .q .now in
+    let limit = c .before .before .before .before .before .before .before .before .before .before .args .limit in
+    let next = c .before .before .before .before .before .r .given .0 .1 .0 in
+    let node =
+    head-node (got (c .before .before .before .before .before .r .given .0 .0) next) s
+    (sym (ap nodeFound (c .before .before .before .before .before .r .given .1))
+    ∙ c .before .before .before .before .before .before .before .read-node .ensures) in
+    whole-checked limit next s (node .0) C.Nowhere (omega arith) (node .1) (c .before .before .before .if2 .taken)
+    (sym (ap clashIn (c .enum-told2 .given .1)) ∙ c .before .before .first-clash .ensures)
+
+returns-4 : tie.Need-returns-4
+returns-4 c =
+    let s = c .before .before .before .before .before .before .before .before .before .before .before .args .q .now in
+    let limit = c .before .before .before .before .before .before .before .before .before .before .before .args .limit in
+    let next = c .before .before .before .before .before .before .r .given .0 .1 .0 in
+    let node =
+    head-node (got (c .before .before .before .before .before .before .r .given .0 .0) next) s
+    (sym (ap nodeFound (c .before .before .before .before .before .before .r .given .1))
+    ∙ c .before .before .before .before .before .before .before .before .read-node .ensures) in
+    whole-checked limit next s (node .0) (C.At _) (omega arith) (node .1) (c .before .before .before .before .if2 .taken)
+    (sym (ap clashIn (c .before .clash .given .1)) ∙ c .before .before .before .first-clash .ensures)
+
+returns-5 : tie.Need-returns-5
+returns-5 c =
+    let s = c .before .before .before .before .before .before .before .args .q .now in
+    let limit = c .before .before .before .before .before .before .before .args .limit in
+    let next = c .before .before .r .given .0 .1 .0 in
+    let node =
+    head-node (got (c .before .before .r .given .0 .0) next) s (sym (ap nodeFound (c .before .before .r .given .1))
+    ∙ c .before .before .before .before .read-node .ensures) in
+    surplus-checked limit next s (node .0) (omega arith) (node .1) (c .if2 .left)
+
+pub check-query-spec : {M : Type 1} → statement M
+check-query-spec =
+    tie.close
+    (tie.spec
+    returns
+    read-node-requires
+    enum-known-r
+    enum-told
+    node-fault-requires
+    returns-2
+    first-clash-requires
+    enum-known-clash
+    enum-told-2
+    returns-3
+    returns-4
+    returns-5)

@@ -1,0 +1,151 @@
+-- The invariant: the uses seen and those of the nodes left are all, and few were seen. The measure is what is left of the query.
+-- Assumes nothing.
+use mathlib.Core.Path.{_≡_, sym, ap, _∙_}
+use native.Mathlib.Omega.{arith}
+use lib.ListN.{drop}
+use borrow.Author.Needs.{needs}
+use Rattle.query.specs.Answers.{placeFound}
+use Rattle.query.specs.Variables.{nodeOf, ownUses, nextNode}
+use Rattle.query.proofs.ReadLaws.{part-drop}
+use Rattle.query.proofs.Walk.{uses-start, uses-sound, uses-here, uses-found, uses-inside, uses-next, uses-end, ownUses-small}
+use Rattle.query.proofs.Walk.{UsesLeft}
+use lib.ListN.{length}
+use Prim.Native.Nat.{_-_}
+use Rattle.query.proofs.clashes.Statement.{statement}
+use Rattle.query.proofs.clashes.Tie as tie
+
+abbrev Inv-loop : tie.InvT-loop
+Inv-loop q v at₀ seen₀ at seen = UsesLeft v q at seen
+
+abbrev μ-loop : tie.MeasureT-loop
+μ-loop q v at₀ seen₀ at seen = length q - at
+
+loop-holds : tie.Need-loop-holds Inv-loop μ-loop
+loop-holds c = uses-start (c .before .args .v) (c .before .args .q .now) (c .before .pre)
+
+sub-own-uses : tie.Need-sub-own-uses Inv-loop μ-loop
+sub-own-uses c = search needs
+
+part-own-uses-start : tie.Need-part-own-uses-start Inv-loop μ-loop
+part-own-uses-start c = search needs
+
+part-own-uses-end : tie.Need-part-own-uses-end Inv-loop μ-loop
+part-own-uses-end c = search needs
+
+own-uses-requires : tie.Need-own-uses-requires Inv-loop μ-loop
+own-uses-requires c κs =
+    let s = c .before .before .before .before .args .q .now in
+    let v = c .before .before .before .before .args .v in
+    let at = c .before .before .loop .at in
+    let left = c .before .before .loop .inv in
+    rw (part-drop s at) (uses-sound left (omega arith))
+
+add-seen : tie.Need-add-seen Inv-loop μ-loop
+add-seen c =
+    let s = c .before .before .before .before .before .args .q .now in
+    let v = c .before .before .before .before .before .args .v in
+    let at = c .before .before .before .loop .at in
+    let left = c .before .before .before .loop .inv in
+    let own : c .own-uses .result ≡ ownUses v (nodeOf (drop at s)) =
+    c .own-uses .ensures ∙ ap (λ t. ownUses v (nodeOf t)) (part-drop s at) in
+    omega (arith, own, ownUses-small v (nodeOf (drop at s)), left .few)
+
+returns : tie.Need-returns Inv-loop μ-loop
+returns c =
+    let s = c .before .before .before .before .before .before .args .q .now in
+    let v = c .before .before .before .before .before .before .args .v in
+    let at = c .before .before .before .before .loop .at in
+    let left = c .before .before .before .before .loop .inv in
+    let own : c .before .own-uses .result ≡ ownUses v (nodeOf (drop at s)) =
+    c .before .own-uses .ensures ∙ ap (λ t. ownUses v (nodeOf t)) (part-drop s at) in
+    sym (uses-here left (omega arith) (omega (arith, own)))
+
+sub-next-node : tie.Need-sub-next-node Inv-loop μ-loop
+sub-next-node c = search needs
+
+part-next-node-start : tie.Need-part-next-node-start Inv-loop μ-loop
+part-next-node-start c = search needs
+
+part-next-node-end : tie.Need-part-next-node-end Inv-loop μ-loop
+part-next-node-end c = search needs
+
+next-node-requires : tie.Need-next-node-requires Inv-loop μ-loop
+next-node-requires c κs = search needs
+
+enum-known-n : tie.Need-enum-known-n Inv-loop μ-loop
+enum-known-n c = search needs
+
+enum-told : tie.Need-enum-told Inv-loop μ-loop
+enum-told c = search needs
+
+returns-2 : tie.Need-returns-2 Inv-loop μ-loop
+returns-2 c =
+    let s = c .before .before .before .before .before .before .before .before .before .before .args .q .now in
+    let v = c .before .before .before .before .before .before .before .before .before .before .args .v in
+    let at = c .before .before .before .before .before .before .before .before .loop .at in
+    let left = c .before .before .before .before .before .before .before .before .loop .inv in
+    let next : nextNode (drop at s) ≡ _ =
+    ap nextNode (sym (part-drop s at)) ∙ sym (c .before .before .next-node .ensures) ∙ ap placeFound (c .enum-told .given .1) in
+    absurd (uses-found left (omega arith) next)
+
+add-at : tie.Need-add-at Inv-loop μ-loop
+add-at c =
+    let s = c .before .before .before .before .before .before .before .before .before .before .before .args .q .now in
+    let v = c .before .before .before .before .before .before .before .before .before .before .before .args .v in
+    let at = c .before .before .before .before .before .before .before .before .before .loop .at in
+    let left = c .before .before .before .before .before .before .before .before .before .loop .inv in
+    let next : nextNode (drop at s) ≡ _ =
+    ap nextNode (sym (part-drop s at)) ∙ sym (c .before .before .before .next-node .ensures) ∙ ap placeFound (c .before .n .given .1) in
+    let inside = uses-inside left (omega arith) next in
+    omega (arith, inside .0, inside .1)
+
+loop-less : tie.Need-loop-less Inv-loop μ-loop
+loop-less c =
+    let s = c .before .before .before .before .before .before .before .before .before .before .before .args .q .now in
+    let v = c .before .before .before .before .before .before .before .before .before .before .before .args .v in
+    let at = c .before .before .before .before .before .before .before .before .before .loop .at in
+    let left = c .before .before .before .before .before .before .before .before .before .loop .inv in
+    let next : nextNode (drop at s) ≡ _ =
+    ap nextNode (sym (part-drop s at)) ∙ sym (c .before .before .before .next-node .ensures) ∙ ap placeFound (c .before .n .given .1) in
+    let inside = uses-inside left (omega arith) next in
+    omega (arith, inside .0, inside .1)
+
+loop-again : tie.Need-loop-again Inv-loop μ-loop
+loop-again c =
+    let s = c .before .before .before .before .before .before .before .before .before .before .before .args .q .now in
+    let v = c .before .before .before .before .before .before .before .before .before .before .before .args .v in
+    let at = c .before .before .before .before .before .before .before .before .before .loop .at in
+    let left = c .before .before .before .before .before .before .before .before .before .loop .inv in
+    let own : c .before .before .before .before .before .before .own-uses .result ≡ ownUses v (nodeOf (drop at s)) =
+    c .before .before .before .before .before .before .own-uses .ensures ∙ ap (λ t. ownUses v (nodeOf t)) (part-drop s at) in
+    let next : nextNode (drop at s) ≡ _ =
+    ap nextNode (sym (part-drop s at)) ∙ sym (c .before .before .before .next-node .ensures) ∙ ap placeFound (c .before .n .given .1) in
+    rw own (uses-next left (omega arith) next (omega (arith, own)))
+
+returns-3 : tie.Need-returns-3 Inv-loop μ-loop
+returns-3 c = sym (uses-end (c .before .loop .inv) (omega arith))
+
+pub clashes-spec : {M : Type 1} → statement M
+clashes-spec =
+    tie.close
+    (tie.spec
+    Inv-loop
+    μ-loop
+    loop-holds
+    sub-own-uses
+    part-own-uses-start
+    part-own-uses-end
+    own-uses-requires
+    add-seen
+    returns
+    sub-next-node
+    part-next-node-start
+    part-next-node-end
+    next-node-requires
+    enum-known-n
+    enum-told
+    returns-2
+    add-at
+    loop-less
+    loop-again
+    returns-3)

@@ -1,0 +1,110 @@
+-- The invariant: the first clash among the nodes left is the query's. The measure is what is left of the query. Assumes nothing.
+use mathlib.Core.Path.{_≡_, sym, ap, _∙_}
+use native.Mathlib.Omega.{arith}
+use lib.ListN.{drop}
+use borrow.Author.Needs.{needs}
+use Rattle.query.specs.Answers.{placeFound}
+use Rattle.query.specs.Variables.{nextNode}
+use Rattle.query.proofs.ReadLaws.{part-drop}
+use Rattle.query.proofs.Walk.{clash-start, clash-is, clash-found, clash-inside, clash-next, clash-none}
+use Rattle.query.proofs.Walk.{ClashLeft}
+use lib.ListN.{length}
+use Prim.Native.Nat.{_-_}
+use Rattle.query.proofs.first_clash.Statement.{statement}
+use Rattle.query.proofs.first_clash.Tie as tie
+
+abbrev Inv-loop : tie.InvT-loop
+Inv-loop q at₀ at = ClashLeft q at
+
+abbrev μ-loop : tie.MeasureT-loop
+μ-loop q at₀ at = length q - at
+
+loop-holds : tie.Need-loop-holds Inv-loop μ-loop
+loop-holds c = clash-start (c .before .args .q .now) (c .before .pre)
+
+clash-at-requires : tie.Need-clash-at-requires Inv-loop μ-loop
+clash-at-requires c κs = (c .before .before .before .pre, omega arith)
+
+returns : tie.Need-returns Inv-loop μ-loop
+returns c = sym (clash-is (c .before .before .before .loop .inv) (omega arith) (sym (c .before .clash-at .ensures) ∙ c .if1 .taken))
+
+sub-next-node : tie.Need-sub-next-node Inv-loop μ-loop
+sub-next-node c = search needs
+
+part-next-node-start : tie.Need-part-next-node-start Inv-loop μ-loop
+part-next-node-start c = search needs
+
+part-next-node-end : tie.Need-part-next-node-end Inv-loop μ-loop
+part-next-node-end c = search needs
+
+next-node-requires : tie.Need-next-node-requires Inv-loop μ-loop
+next-node-requires c κs = search needs
+
+enum-known-n : tie.Need-enum-known-n Inv-loop μ-loop
+enum-known-n c = search needs
+
+enum-told : tie.Need-enum-told Inv-loop μ-loop
+enum-told c = search needs
+
+returns-2 : tie.Need-returns-2 Inv-loop μ-loop
+returns-2 c =
+    let s = c .before .before .before .before .before .before .before .before .before .args .q .now in
+    let at = c .before .before .before .before .before .before .before .loop .at in
+    let left = c .before .before .before .before .before .before .before .loop .inv in
+    let next : nextNode (drop at s) ≡ _ =
+    ap nextNode (sym (part-drop s at)) ∙ sym (c .before .before .next-node .ensures) ∙ ap placeFound (c .enum-told .given .1) in
+    absurd (clash-found left (omega arith) next)
+
+add-at : tie.Need-add-at Inv-loop μ-loop
+add-at c =
+    let s = c .before .before .before .before .before .before .before .before .before .before .args .q .now in
+    let at = c .before .before .before .before .before .before .before .before .loop .at in
+    let left = c .before .before .before .before .before .before .before .before .loop .inv in
+    let next : nextNode (drop at s) ≡ _ =
+    ap nextNode (sym (part-drop s at)) ∙ sym (c .before .before .before .next-node .ensures) ∙ ap placeFound (c .before .n .given .1) in
+    let inside = clash-inside left (omega arith) next in
+    omega (arith, inside .0, inside .1)
+
+loop-less : tie.Need-loop-less Inv-loop μ-loop
+loop-less c =
+    let s = c .before .before .before .before .before .before .before .before .before .before .args .q .now in
+    let at = c .before .before .before .before .before .before .before .before .loop .at in
+    let left = c .before .before .before .before .before .before .before .before .loop .inv in
+    let next : nextNode (drop at s) ≡ _ =
+    ap nextNode (sym (part-drop s at)) ∙ sym (c .before .before .before .next-node .ensures) ∙ ap placeFound (c .before .n .given .1) in
+    let inside = clash-inside left (omega arith) next in
+    omega (arith, inside .0, inside .1)
+
+loop-again : tie.Need-loop-again Inv-loop μ-loop
+loop-again c =
+    let s = c .before .before .before .before .before .before .before .before .before .before .args .q .now in
+    let at = c .before .before .before .before .before .before .before .before .loop .at in
+    let left = c .before .before .before .before .before .before .before .before .loop .inv in
+    let next : nextNode (drop at s) ≡ _ =
+    ap nextNode (sym (part-drop s at)) ∙ sym (c .before .before .before .next-node .ensures) ∙ ap placeFound (c .before .n .given .1) in
+    clash-next left (omega arith) next (sym (c .before .before .before .before .before .before .clash-at .ensures)
+    ∙ c .before .before .before .before .before .if1 .left)
+
+returns-3 : tie.Need-returns-3 Inv-loop μ-loop
+returns-3 c = sym (clash-none (c .before .loop .inv) (omega arith))
+
+pub first-clash-spec : {M : Type 1} → statement M
+first-clash-spec =
+    tie.close
+    (tie.spec
+    Inv-loop
+    μ-loop
+    loop-holds
+    clash-at-requires
+    returns
+    sub-next-node
+    part-next-node-start
+    part-next-node-end
+    next-node-requires
+    enum-known-n
+    enum-told
+    returns-2
+    add-at
+    loop-less
+    loop-again
+    returns-3)

@@ -1,0 +1,164 @@
+-- By the head of the node. Assumes nothing.
+use mathlib.Core.Path.{sym, ap, _∙_}
+use borrow.Author.Tests.{eq-eqb, ne-eqb}
+use Rattle.query.specs.Answers.{nodeFound}
+use Rattle.query.proofs.NodeParts.{node-head-inside}
+use Rattle.query.proofs.Walk.{headUses, head-of-node, head-sound}
+use borrow.Author.Needs.{needs}
+use Rattle.query.proofs.own_uses.Statement.{statement}
+use Rattle.query.proofs.own_uses.Tie as tie
+
+read-head-requires : tie.Need-read-head-requires
+read-head-requires c κs = search needs
+
+enum-known-h : tie.Need-enum-known-h
+enum-known-h c = search needs
+
+enum-told : tie.Need-enum-told
+enum-told c = search needs
+
+returns : tie.Need-returns
+returns c =
+    absurd (head-sound (c .before .before .before .before .args .q .now) (c .before .before .before .before .pre)
+    (sym (c .before .before .read-head .ensures) ∙ ap nodeFound (c .enum-told .given .1)))
+
+enum-known-head : tie.Need-enum-known-head
+enum-known-head c = search needs
+
+patterns-have-requires : tie.Need-patterns-have-requires
+patterns-have-requires c κs =
+    let s = c .before .before .before .before .before .before .before .before .args .q .now in
+    let found =
+    sym (c .before .before .before .before .before .before .read-head .ensures)
+    ∙ ap nodeFound (c .before .before .before .before .h .given .1) in
+    let own = c .before .before .before .before .h .given .0 .1 .0 in (
+      node-head-inside s found .1,
+      rw (c .before .head .given .1) at (head-of-node (c .before .before .before .before .before .before .before .before .args .v) s
+          (c .before .before .before .before .before .before .before .before .pre) found .patterns-sound),
+    )
+
+enum-told-2 : tie.Need-enum-told-2
+enum-told-2 c = search needs
+
+enum-told-3 : tie.Need-enum-told-3
+enum-told-3 c = search needs
+
+enum-told-4 : tie.Need-enum-told-4
+enum-told-4 c = search needs
+
+enum-told-5 : tie.Need-enum-told-5
+enum-told-5 c = search needs
+
+enum-known-head-2 : tie.Need-enum-known-head-2
+enum-known-head-2 c = search needs
+
+enum-told-6 : tie.Need-enum-told-6
+enum-told-6 c = search needs
+
+returns-2 : tie.Need-returns-2
+returns-2 c =
+    let a = c .before .before .before .before .before .before .before .before .before .before .args in
+    let found =
+    sym (c .before .before .before .before .before .before .before .before .read-head .ensures)
+    ∙ ap nodeFound (c .before .before .before .before .before .before .h .given .1) in
+    sym (head-of-node (a .v) (a .q .now)
+    (c .before .before .before .before .before .before .before .before .before .before .pre) found .uses-are
+    ∙ ap (headUses (a .v) (a .q .now) (c .before .before .before .before .before .before .h .given .0 .1 .0))
+    (c .before .before .before .head .given .1) ∙ rw (sym (c .before .patterns-have .ensures) ∙ c .if1 .taken))
+
+returns-3 : tie.Need-returns-3
+returns-3 c =
+    let a = c .before .before .before .before .before .before .before .before .before .before .args in
+    let found =
+    sym (c .before .before .before .before .before .before .before .before .read-head .ensures)
+    ∙ ap nodeFound (c .before .before .before .before .before .before .h .given .1) in
+    sym (head-of-node (a .v) (a .q .now)
+    (c .before .before .before .before .before .before .before .before .before .before .pre) found .uses-are
+    ∙ ap (headUses (a .v) (a .q .now) (c .before .before .before .before .before .before .h .given .0 .1 .0))
+    (c .before .before .before .head .given .1) ∙ rw (sym (c .before .patterns-have .ensures) ∙ c .if1 .left))
+
+returns-4 : tie.Need-returns-4
+returns-4 c =
+    let a = c .before .before .before .before .before .before .before .args in
+    let found =
+    sym (c .before .before .before .before .before .read-head .ensures) ∙ ap nodeFound (c .before .before .before .h .given .1) in
+    sym (head-of-node (a .v) (a .q .now) (c .before .before .before .before .before .before .before .pre) found .uses-are
+    ∙ ap (headUses (a .v) (a .q .now) (c .before .before .before .h .given .0 .1 .0)) (c .enum-told2 .given .1))
+
+returns-5 : tie.Need-returns-5
+returns-5 c =
+    let a = c .before .before .before .before .before .before .before .args in
+    let found =
+    sym (c .before .before .before .before .before .read-head .ensures) ∙ ap nodeFound (c .before .before .before .h .given .1) in
+    sym (head-of-node (a .v) (a .q .now) (c .before .before .before .before .before .before .before .pre) found .uses-are
+    ∙ ap (headUses (a .v) (a .q .now) (c .before .before .before .h .given .0 .1 .0)) (c .enum-told3 .given .1))
+
+returns-6 : tie.Need-returns-6
+returns-6 c =
+    let a = c .before .before .before .before .before .before .before .args in
+    let found =
+    sym (c .before .before .before .before .before .read-head .ensures) ∙ ap nodeFound (c .before .before .before .h .given .1) in
+    sym (head-of-node (a .v) (a .q .now) (c .before .before .before .before .before .before .before .pre) found .uses-are
+    ∙ ap (headUses (a .v) (a .q .now) (c .before .before .before .h .given .0 .1 .0)) (c .enum-told4 .given .1))
+
+returns-7 : tie.Need-returns-7
+returns-7 c =
+    let a = c .before .before .before .before .before .before .before .args in
+    let found =
+    sym (c .before .before .before .before .before .read-head .ensures) ∙ ap nodeFound (c .before .before .before .h .given .1) in
+    sym (head-of-node (a .v) (a .q .now) (c .before .before .before .before .before .before .before .pre) found .uses-are
+    ∙ ap (headUses (a .v) (a .q .now) (c .before .before .before .h .given .0 .1 .0)) (c .enum-told5 .given .1))
+
+returns-8 : tie.Need-returns-8
+returns-8 c =
+    let a = c .before .before .before .before .before .before .before .before .before .args in
+    let found =
+    sym (c .before .before .before .before .before .before .before .read-head .ensures)
+    ∙ ap nodeFound (c .before .before .before .before .before .h .given .1) in
+    sym (head-of-node (a .v) (a .q .now) (c .before .before .before .before .before .before .before .before .before .pre) found .uses-are
+    ∙ ap (headUses (a .v) (a .q .now) (c .before .before .before .before .before .h .given .0 .1 .0)) (c .before .before .head2 .given .1)
+    ∙ rw (eq-eqb _ _ (c .if2 .taken)))
+
+returns-9 : tie.Need-returns-9
+returns-9 c =
+    let a = c .before .before .before .before .before .before .before .before .before .args in
+    let found =
+    sym (c .before .before .before .before .before .before .before .read-head .ensures)
+    ∙ ap nodeFound (c .before .before .before .before .before .h .given .1) in
+    sym (head-of-node (a .v) (a .q .now) (c .before .before .before .before .before .before .before .before .before .pre) found .uses-are
+    ∙ ap (headUses (a .v) (a .q .now) (c .before .before .before .before .before .h .given .0 .1 .0)) (c .before .before .head2 .given .1)
+    ∙ rw (ne-eqb _ _ (c .if2 .left)))
+
+returns-10 : tie.Need-returns-10
+returns-10 c =
+    let a = c .before .before .before .before .before .before .before .args in
+    let found =
+    sym (c .before .before .before .before .before .read-head .ensures) ∙ ap nodeFound (c .before .before .before .h .given .1) in
+    sym (head-of-node (a .v) (a .q .now) (c .before .before .before .before .before .before .before .pre) found .uses-are
+    ∙ ap (headUses (a .v) (a .q .now) (c .before .before .before .h .given .0 .1 .0)) (c .enum-told6 .given .1))
+
+pub own-uses-spec : {M : Type 1} → statement M
+own-uses-spec =
+    tie.close
+    (tie.spec
+    read-head-requires
+    enum-known-h
+    enum-told
+    returns
+    enum-known-head
+    patterns-have-requires
+    enum-told-2
+    enum-told-3
+    enum-told-4
+    enum-told-5
+    enum-known-head-2
+    enum-told-6
+    returns-2
+    returns-3
+    returns-4
+    returns-5
+    returns-6
+    returns-7
+    returns-8
+    returns-9
+    returns-10)

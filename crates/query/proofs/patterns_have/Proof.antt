@@ -1,0 +1,118 @@
+-- The invariant: the patterns left have the variable exactly if all have it. The measure is how many are left. Assumes nothing.
+use mathlib.Core.Path.{refl, sym, ap, _∙_}
+use native.Mathlib.Omega.{arith}
+use Rattle.tsparql.specs.Reading.{readPattern}
+use Rattle.query.specs.Answers.{patternFound}
+use Rattle.query.proofs.ReadLaws.{part-drop, placeOf}
+use Rattle.query.proofs.PatternParts.{pattern-part}
+use borrow.Author.Needs.{needs}
+use Rattle.query.proofs.Walk.{have-none, have-fault, have-here, have-next}
+use Rattle.query.proofs.Walk.{HaveLeft}
+use lib.ListN.{length}
+use Prim.Native.Nat.{_≤_}
+use Rattle.query.proofs.patterns_have.Statement.{statement}
+use Rattle.query.proofs.patterns_have.Tie as tie
+
+abbrev Inv-loop : tie.InvT-loop
+Inv-loop q at n v p₀ left₀ p left = HaveLeft v q n at left p × (p ≤ length q)
+
+abbrev μ-loop : tie.MeasureT-loop
+μ-loop q at n v p₀ left₀ p left = left
+
+loop-holds : tie.Need-loop-holds Inv-loop μ-loop
+loop-holds c = (record { same = refl; sound = c .before .pre .1 }, omega arith)
+
+sub-read-pattern : tie.Need-sub-read-pattern Inv-loop μ-loop
+sub-read-pattern c = search needs
+
+part-read-pattern-start : tie.Need-part-read-pattern-start Inv-loop μ-loop
+part-read-pattern-start c = search needs
+
+part-read-pattern-end : tie.Need-part-read-pattern-end Inv-loop μ-loop
+part-read-pattern-end c = search needs
+
+read-pattern-requires : tie.Need-read-pattern-requires Inv-loop μ-loop
+read-pattern-requires c κs = search needs
+
+enum-known-r : tie.Need-enum-known-r Inv-loop μ-loop
+enum-known-r c = search needs
+
+enum-told : tie.Need-enum-told Inv-loop μ-loop
+enum-told c = search needs
+
+returns : tie.Need-returns Inv-loop μ-loop
+returns c =
+    let s = c .before .before .before .before .before .before .before .args .q .now in
+    let p = c .before .before .before .before .before .loop .p in
+    let found =
+    ap readPattern (sym (part-drop s p)) ∙ sym (c .before .before .read-pattern .ensures) ∙ ap patternFound (c .enum-told .given .1) in
+    absurd (have-fault (c .before .before .before .before .before .loop .inv .0) (omega arith) found)
+
+pattern-has-requires : tie.Need-pattern-has-requires Inv-loop μ-loop
+pattern-has-requires c κs = search needs
+
+returns-2 : tie.Need-returns-2 Inv-loop μ-loop
+returns-2 c =
+    let s = c .before .before .before .before .before .before .before .before .before .before .args .q .now in
+    let p = c .before .before .before .before .before .before .before .before .loop .p in
+    let found =
+    ap readPattern (sym (part-drop s p)) ∙ sym (c .before .before .before .before .before .read-pattern .ensures)
+    ∙ ap patternFound (c .before .before .before .r .given .1) in
+    sym (have-here (c .before .before .before .before .before .before .before .before .loop .inv .0) (omega arith) found
+    (sym (c .before .pattern-has .ensures) ∙ c .if1 .taken))
+
+add-p : tie.Need-add-p Inv-loop μ-loop
+add-p c =
+    let s = c .before .before .before .before .before .before .before .before .before .before .args .q .now in
+    let p = c .before .before .before .before .before .before .before .before .loop .p in
+    omega (
+      arith,
+      pattern-part s p _ (c .before .before .before .before .before .read-pattern .ensures) (omega arith),
+      ap placeOf (ap patternFound (c .before .before .before .r .given .1)),
+    )
+
+sub-left : tie.Need-sub-left Inv-loop μ-loop
+sub-left c = search needs
+
+loop-less : tie.Need-loop-less Inv-loop μ-loop
+loop-less c = search needs
+
+loop-again : tie.Need-loop-again Inv-loop μ-loop
+loop-again c =
+    let s = c .before .before .before .before .before .before .before .before .before .before .args .q .now in
+    let p = c .before .before .before .before .before .before .before .before .loop .p in
+    let found = ap readPattern (sym (part-drop s p)) ∙ sym (c .before .before .before .before .before .read-pattern .ensures)
+    ∙ ap patternFound (c .before .before .before .r .given .1) in (
+      have-next (c .before .before .before .before .before .before .before .before .loop .inv .0) (omega arith) found
+          (sym (c .before .pattern-has .ensures) ∙ c .if1 .left),
+      omega (
+        arith,
+        pattern-part s p _ (c .before .before .before .before .before .read-pattern .ensures) (omega arith),
+        ap placeOf (ap patternFound (c .before .before .before .r .given .1)),
+      ),
+    )
+
+returns-3 : tie.Need-returns-3 Inv-loop μ-loop
+returns-3 c = sym (have-none (c .before .loop .inv .0) (omega arith))
+
+pub patterns-have-spec : {M : Type 1} → statement M
+patterns-have-spec =
+    tie.close
+    (tie.spec
+    Inv-loop
+    μ-loop
+    loop-holds
+    sub-read-pattern
+    part-read-pattern-start
+    part-read-pattern-end
+    read-pattern-requires
+    enum-known-r
+    enum-told
+    returns
+    pattern-has-requires
+    returns-2
+    add-p
+    sub-left
+    loop-less
+    loop-again
+    returns-3)

@@ -1,0 +1,98 @@
+-- By the head. Assumes nothing.
+use mathlib.Core.Path.{sym, ap, _∙_}
+use Rattle.query.specs.Answers.{nodeFound}
+use Rattle.query.specs.Variables.{headVariable, foundVariable}
+use borrow.Author.Needs.{needs}
+use Rattle.query.proofs.projected.Statement.{statement}
+use Rattle.query.proofs.projected.Tie as tie
+
+read-head-requires : tie.Need-read-head-requires
+read-head-requires c κs = search needs
+
+enum-known-h : tie.Need-enum-known-h
+enum-known-h c = search needs
+
+enum-told : tie.Need-enum-told
+enum-told c = search needs
+
+returns : tie.Need-returns
+returns c = sym (ap foundVariable (sym (c .before .before .read-head .ensures) ∙ ap nodeFound (c .enum-told .given .1)))
+
+enum-told-2 : tie.Need-enum-told-2
+enum-told-2 c = search needs
+
+enum-told-3 : tie.Need-enum-told-3
+enum-told-3 c = search needs
+
+enum-told-4 : tie.Need-enum-told-4
+enum-told-4 c = search needs
+
+enum-told-5 : tie.Need-enum-told-5
+enum-told-5 c = search needs
+
+enum-told-6 : tie.Need-enum-told-6
+enum-told-6 c = search needs
+
+enum-known-head : tie.Need-enum-known-head
+enum-known-head c = search needs
+
+enum-told-7 : tie.Need-enum-told-7
+enum-told-7 c = search needs
+
+returns-2 : tie.Need-returns-2
+returns-2 c =
+    sym (ap foundVariable (sym (c .before .before .before .before .before .read-head .ensures)
+    ∙ ap nodeFound (c .before .before .before .h .given .1)) ∙ ap headVariable (c .enum-told2 .given .1))
+
+returns-3 : tie.Need-returns-3
+returns-3 c =
+    sym (ap foundVariable (sym (c .before .before .before .before .before .read-head .ensures)
+    ∙ ap nodeFound (c .before .before .before .h .given .1)) ∙ ap headVariable (c .enum-told3 .given .1))
+
+returns-4 : tie.Need-returns-4
+returns-4 c =
+    sym (ap foundVariable (sym (c .before .before .before .before .before .read-head .ensures)
+    ∙ ap nodeFound (c .before .before .before .h .given .1)) ∙ ap headVariable (c .enum-told4 .given .1))
+
+returns-5 : tie.Need-returns-5
+returns-5 c =
+    sym (ap foundVariable (sym (c .before .before .before .before .before .read-head .ensures)
+    ∙ ap nodeFound (c .before .before .before .h .given .1)) ∙ ap headVariable (c .enum-told5 .given .1))
+
+returns-6 : tie.Need-returns-6
+returns-6 c =
+    sym (ap foundVariable (sym (c .before .before .before .before .before .read-head .ensures)
+    ∙ ap nodeFound (c .before .before .before .h .given .1)) ∙ ap headVariable (c .enum-told6 .given .1))
+
+returns-7 : tie.Need-returns-7
+returns-7 c =
+    sym (ap foundVariable (sym (c .before .before .before .before .before .before .read-head .ensures)
+    ∙ ap nodeFound (c .before .before .before .before .h .given .1)) ∙ ap headVariable (c .before .head .given .1))
+
+returns-8 : tie.Need-returns-8
+returns-8 c =
+    sym (ap foundVariable (sym (c .before .before .before .before .before .read-head .ensures)
+    ∙ ap nodeFound (c .before .before .before .h .given .1)) ∙ ap headVariable (c .enum-told7 .given .1))
+
+pub projected-spec : {M : Type 1} → statement M
+projected-spec =
+    tie.close
+    (tie.spec
+    read-head-requires
+    enum-known-h
+    enum-told
+    returns
+    enum-told-2
+    enum-told-3
+    enum-told-4
+    enum-told-5
+    enum-told-6
+    enum-known-head
+    enum-told-7
+    returns-2
+    returns-3
+    returns-4
+    returns-5
+    returns-6
+    returns-7
+    returns-8)

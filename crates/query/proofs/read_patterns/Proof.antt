@@ -1,0 +1,104 @@
+-- The invariant: what is left to read from the place reached is what was to be read. The measure is how many are left. Assumes nothing.
+use mathlib.Core.Path.{_≡_, refl, sym, ap, _∙_}
+use Prim.Native.Nat.{_≤_}
+use native.Mathlib.Omega.{arith}
+use lib.ListN.{length}
+use Rattle.tsparql.specs.Reading.{readPattern}
+use Rattle.query.specs.Answers.{patternFound}
+use Rattle.query.specs.Parts.{patternsFrom}
+use Rattle.query.proofs.ReadLaws.{part-drop, placeOf}
+use Rattle.query.proofs.PatternParts.{patterns-none, patterns-next, patterns-fault, pattern-part}
+use borrow.Author.Needs.{needs}
+use Rattle.query.proofs.read_patterns.Statement.{statement}
+use Rattle.query.proofs.read_patterns.Tie as tie
+
+abbrev Inv-loop : tie.InvT-loop
+Inv-loop q at n p₀ left₀ p left = (patternsFrom n at q ≡ patternsFrom left p q) × (p ≤ length q)
+
+abbrev μ-loop : tie.MeasureT-loop
+μ-loop q at n p₀ left₀ p left = left
+
+loop-holds : tie.Need-loop-holds Inv-loop μ-loop
+loop-holds c = (refl, omega arith)
+
+sub-read-pattern : tie.Need-sub-read-pattern Inv-loop μ-loop
+sub-read-pattern c = search needs
+
+part-read-pattern-start : tie.Need-part-read-pattern-start Inv-loop μ-loop
+part-read-pattern-start c = search needs
+
+part-read-pattern-end : tie.Need-part-read-pattern-end Inv-loop μ-loop
+part-read-pattern-end c = search needs
+
+read-pattern-requires : tie.Need-read-pattern-requires Inv-loop μ-loop
+read-pattern-requires c κs = search needs
+
+enum-known-r : tie.Need-enum-known-r Inv-loop μ-loop
+enum-known-r c = search needs
+
+enum-told : tie.Need-enum-told Inv-loop μ-loop
+enum-told c = search needs
+
+returns : tie.Need-returns Inv-loop μ-loop
+returns c =
+    let bad =
+    ap readPattern (sym (part-drop (c .before .before .before .before .before .before .before .args .q .now)
+    (c .before .before .before .before .before .loop .p))) ∙ sym (c .before .before .read-pattern .ensures)
+    ∙ ap patternFound (c .enum-told .given .1) in
+    sym (c .before .before .before .before .before .loop .inv .0 ∙ patterns-fault
+    (c .before .before .before .before .before .before .before .args .q .now) (c .before .before .before .before .before .loop .p)
+    (c .before .before .before .before .before .loop .left) _ (omega arith) bad)
+
+add-p : tie.Need-add-p Inv-loop μ-loop
+add-p c =
+    omega (
+      arith,
+      pattern-part (c .before .before .before .before .before .before .before .before .args .q .now)
+          (c .before .before .before .before .before .before .loop .p) _ (c .before .before .before .read-pattern .ensures) (omega arith),
+      ap placeOf (ap patternFound (c .before .r .given .1)),
+    )
+
+sub-left : tie.Need-sub-left Inv-loop μ-loop
+sub-left c = search needs
+
+loop-less : tie.Need-loop-less Inv-loop μ-loop
+loop-less c = search needs
+
+loop-again : tie.Need-loop-again Inv-loop μ-loop
+loop-again c =
+    let s = c .before .before .before .before .before .before .before .before .args .q .now in
+    let p = c .before .before .before .before .before .before .loop .p in
+    let found =
+    ap readPattern (sym (part-drop (c .before .before .before .before .before .before .before .before .args .q .now)
+    (c .before .before .before .before .before .before .loop .p))) ∙ sym (c .before .before .before .read-pattern .ensures)
+    ∙ ap patternFound (c .before .r .given .1) in
+    let inside = pattern-part s p _ (c .before .before .before .read-pattern .ensures) (omega arith) in (
+      c .before .before .before .before .before .before .loop .inv .0 ∙ patterns-next s p
+          (c .before .before .before .before .before .before .loop .left) _ _ (omega arith) found,
+      omega (arith, inside, ap placeOf (ap patternFound (c .before .r .given .1))),
+    )
+
+returns-2 : tie.Need-returns-2 Inv-loop μ-loop
+returns-2 c =
+    sym (c .before .loop .inv .0 ∙ patterns-none (c .before .before .before .args .q .now) (c .before .loop .p) (c .before .loop .left)
+    (omega arith))
+
+pub read-patterns-spec : {M : Type 1} → statement M
+read-patterns-spec =
+    tie.close
+    (tie.spec
+    Inv-loop
+    μ-loop
+    loop-holds
+    sub-read-pattern
+    part-read-pattern-start
+    part-read-pattern-end
+    read-pattern-requires
+    enum-known-r
+    enum-told
+    returns
+    add-p
+    sub-left
+    loop-less
+    loop-again
+    returns-2)

@@ -1,0 +1,4 @@
+-- What the query readers answer, in the definitions' terms.
+pub mod Answers
+pub mod Parts
+pub mod Variables
