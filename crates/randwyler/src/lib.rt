@@ -1,0 +1,41 @@
+// The calls for C. Their names and layouts are in include/randwyler.h.
+ghost use mathlib.Core.Path.{_≡_};
+ghost use Rattle.tsparql.specs.Check.{check};
+ghost use Rattle.randwyler.specs.Answers.{refusalIn};
+use query::QueryAnswer;
+use query::check_query;
+use table::TableAnswer;
+use table::check_table;
+
+// The most bytes of a query that is evaluated.
+const EVALUATE_LIMIT: usize = 5120;
+
+// Number and place of the first refusal that applies; both are 0 where none does.
+#[repr(C)]
+pub struct Refusal {
+    pub number: u32,
+    pub place: u64,
+}
+
+// The check of a table and a query: refusals 1 to 7. Nothing is written.
+#[no_mangle]
+pub extern "C" fn randwyler_check(table: &[u8], query: &[u8]) -> Refusal
+    ensures { λ r. ⌜ refusalIn r ≡ check (now (table .entry)) (now (query .entry)) ⌝ }
+{
+    if let TableAnswer::Refused { number, place } = check_table(table) {
+        return Refusal {
+            number,
+            place: place as u64,
+        };
+    }
+    match check_query(query, EVALUATE_LIMIT) {
+        QueryAnswer::Sound => Refusal {
+            number: 0,
+            place: 0,
+        },
+        QueryAnswer::Refused { number, place } => Refusal {
+            number,
+            place: place as u64,
+        },
+    }
+}
