@@ -1,0 +1,47 @@
+# For scripts that link the archive: sourced in the repository's top folder, with `name` set to the script's name.
+# RANDWYLER_ARCHIVE=FILE tests another archive with the same calls in the place of ours.
+
+passed=0
+failed=0
+
+say() { printf '%s: %s\n' "$name" "$*"; }
+
+# Counts a failure and says what failed.
+fail() {
+    say "FAILED: $*"
+    failed=$((failed + 1))
+}
+
+# Ends a test with its last line.
+finish() {
+    echo "$passed passed, $failed failed"
+    [ "$failed" -eq 0 ] || exit 1
+    exit 0
+}
+
+# Builds the archive and sets `archive` to its path. Status 1: there is nothing to build yet; 2: it cannot be built.
+build_archive() {
+    if [ -n "${RANDWYLER_ARCHIVE:-}" ]; then
+        archive=$RANDWYLER_ARCHIVE
+        say "takes the archive $archive (RANDWYLER_ARCHIVE)"
+    elif [ -d crates/randwyler ]; then
+        archive=target/staticlib/librandwyler.a
+        say "building $archive"
+        rt staticlib randwyler || return 2
+    else
+        say "crates/randwyler does not exist, so there is no archive"
+        return 1
+    fi
+    [ -f "$archive" ] || return 2
+}
+
+# The same for a test, which ends if there is no archive.
+archive_or_finish() {
+    build_archive || { [ $? -eq 1 ] || fail "the archive cannot be built"; finish; }
+}
+
+# compile_c OUTPUT SOURCE...: a C program with the archive. A warning is an error.
+compile_c() {
+    mkdir -p "$(dirname "$1")"
+    gcc -std=c11 -Wall -Wextra -Wconversion -Werror -O2 -Iinclude "${@:2}" "$archive" -o "$1"
+}
