@@ -3,17 +3,16 @@
 use mathlib.Core.Path.{_≡_}
 use mathlib.Core.Bool.{Bool, true, false, cond}
 use mathlib.Core.List.{List}
-use Prim.Native.Nat.{ℕ, _/_, _%_, _^_}
+use Prim.Native.Nat.{ℕ, _+_, _*_, _%_, _^_}
 use Rattle.tsparql.specs.Table.{View, wholeTable}
 use Rattle.tsparql.specs.Check.{Refusal, refuse, noRefusal, passes, tableRefusal}
 use Rattle.table.specs.declared.Fields.{Fields}
 use Rattle.table.specs.declared.TableAnswer.{TableAnswer}
 use Rattle.table.specs.declared.TableAnswer.the-variants.{Sound, Refused}
 
--- the fields of the record that is the number x: 60 bits of subject, predicate and object, 12 bits of known bit and trust field
-pub record FieldsOf (x : ℕ) (f : Fields) : Type 0 where
-  pub key : f .key ≡ x / 2 ^ 12
-  pub trust : f .trust ≡ x % 2 ^ 12
+-- the record's number that the fields are of: 60 bits of subject, predicate and object, and 12 bits of known bit and trust field
+abbrev pub numberIn : Fields → ℕ
+numberIn f = f .key * 2 ^ 12 + f .trust % 2 ^ 12
 
 -- nothing of a table
 abbrev pub noRecords : View

@@ -19,25 +19,22 @@ finish() {
     exit 0
 }
 
-# Builds the archive and sets `archive` to its path. Status 1: there is nothing to build yet; 2: it cannot be built.
+# Builds the archive and sets `archive` to its path.
 build_archive() {
     if [ -n "${RANDWYLER_ARCHIVE:-}" ]; then
         archive=$RANDWYLER_ARCHIVE
         say "takes the archive $archive (RANDWYLER_ARCHIVE)"
-    elif [ -d crates/randwyler ]; then
+    else
         archive=target/staticlib/librandwyler.a
         say "building $archive"
-        rt staticlib randwyler || return 2
-    else
-        say "crates/randwyler does not exist, so there is no archive"
-        return 1
+        rt staticlib randwyler || return 1
     fi
-    [ -f "$archive" ] || return 2
+    [ -f "$archive" ]
 }
 
-# The same for a test, which ends if there is no archive.
+# The same for a test, which fails if there is no archive.
 archive_or_finish() {
-    build_archive || { [ $? -eq 1 ] || fail "the archive cannot be built"; finish; }
+    build_archive || { fail "the archive cannot be built"; finish; }
 }
 
 # compile_c OUTPUT SOURCE...: a C program with the archive. A warning is an error.
