@@ -24,6 +24,7 @@ use Rattle.query.specs.declared.Place.the-variants as L
 abbrev pub patternIn : Pattern → Q.Pattern
 patternIn p = record { subject = slotOf (p .subject); predicate = slotOf (p .predicate); object = slotOf (p .object) }
 
+-- the pattern and the next place, or the fault
 abbrev pub patternFound : PatternRead → Read Q.Pattern
 patternFound (P.Found p n) = got (patternIn p) n
 patternFound (P.Fault k) = fault k
@@ -39,6 +40,7 @@ conditionHead (conjunction c d) = C.And
 conditionHead (disjunction c d) = C.Or
 conditionHead always = C.True
 
+-- the head and the next place, or the fault
 abbrev pub conditionFound : ConditionRead → Read ConditionHead
 conditionFound (CR.Condition h n) = got h n
 conditionFound (CR.Fault p) = fault p
@@ -53,6 +55,7 @@ nodeHead (filter c x) = H.Filter
 nodeHead (projectTrust v x) = H.ProjectTrust v
 nodeHead (ensureTrust l u x) = H.EnsureTrust l u
 
+-- the head and the next place, or the fault
 abbrev pub nodeFound : NodeRead → Read Head
 nodeFound (N.Node h n) = got h n
 nodeFound (N.Fault p) = fault p

@@ -1,4 +1,4 @@
--- The readers of the definitions in the parts that the code reads them in: the head of a condition or a node with the place behind its
+-- The readers of the definitions in parts: the head of a condition or a node with the place behind its
 -- own bytes, what stands between a head and its operands, and operands one behind the other. That these parts are the definitions'
 -- readers is proved in proofs/. Places are counted from the start of the part. Assumes nothing.
 use mathlib.Core.Bool.{Bool, true, false, _&&_, not, cond}
@@ -14,6 +14,7 @@ use Rattle.query.specs.declared.Head.the-variants as H
 
 -- ---- places
 
+-- what was found, made into something else
 abbrev pub mapRead : {A B : Type 0} → (A → B) → Read A → Read B
 mapRead f (got a n) = got (f a) n
 mapRead f (fault p) = fault p
@@ -46,6 +47,7 @@ termOf s = cond (leb 4 (length s) && termSound (bits24 s 1)) (bits24 s 1) 0
 abbrev pub pairHead : List ℕ → ℕ → Bool → Read ConditionHead
 pairHead s n isSame = require (ltb (secondOf s) 16) (got (cond isSame (C.Same n (secondOf s)) (C.Less n (secondOf s))) 2)
 
+-- is-term, with n for its variable
 abbrev pub termHead : List ℕ → ℕ → Read ConditionHead
 termHead s n = require (not (eqb (termOf s) 0)) (got (C.IsTerm n (termOf s)) 4)
 
@@ -102,6 +104,7 @@ plainHead kind n =
     (cond (eqb kind 3) (got H.Union 1)
     (cond (eqb kind 4) (got H.Filter 1) (fault 0)))))
 
+-- the head, and the place behind its own bytes
 unfoldable pub nodeHeadRead : List ℕ → Read Head
 nodeHeadRead s =
     cond (eqb (length s) 0) (fault 0)

@@ -1,5 +1,5 @@
--- The variables of a query, in the terms of the code that looks for clashes (refusal 7): which variable stands where, how a node itself
--- uses a variable, the next node in prefix order; and the answers of the check of a query. Assumes nothing.
+-- The variables of a query by its parts, for refusal 7: which variable stands where, how a node itself uses a variable, the next node in
+-- prefix order; and the answers of the check of a query. Assumes nothing.
 use mathlib.Core.Path.{_≡_}
 use mathlib.Core.Bool.{Bool, true, false, _&&_, cond}
 use mathlib.Core.List.{List, [], map}
@@ -30,9 +30,11 @@ abbrev pub IsGot : {A : Type 0} → Read A → Type 0
 IsGot (got a n) = Unit {0}
 IsGot (fault p) = ⊥
 
+-- n patterns stand from a place on
 abbrev pub PatternsSound : ℕ → ℕ → List ℕ → Type 0
 PatternsSound n at s = IsGot (readPatterns n (drop at s))
 
+-- the patterns that were found
 abbrev pub foundPatterns : Read (List Pattern) → List Pattern
 foundPatterns (got ps n) = ps
 foundPatterns (fault p) = []
@@ -47,6 +49,7 @@ patternsOf n at s = concatMap variablesOf (foundPatterns (readPatterns n (drop a
 abbrev pub NodeSound : List ℕ → Type 0
 NodeSound s = IsGot (readNode s)
 
+-- the node that the part starts with
 abbrev pub nodeOf : List ℕ → Node
 nodeOf s = foundNode (readNode s)
 
@@ -74,10 +77,12 @@ headVariable H.Filter = 16
 headVariable (H.ProjectTrust v) = v
 headVariable (H.EnsureTrust l u) = 16
 
+-- the same where a head was found
 abbrev pub foundVariable : Read Head → ℕ
 foundVariable (got h own) = headVariable h
 foundVariable (fault p) = 16
 
+-- the variable that the node of a part projects its trust to, or 16
 abbrev pub projectedIn : List ℕ → ℕ
 projectedIn s = foundVariable (nodeHeadRead s)
 
