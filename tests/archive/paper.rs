@@ -1,6 +1,6 @@
 //! An independent reading of document 01: tables, the tree of a query, and the check.
 //!
-//! Written from the document alone and made for reading, with nothing in common with the engine: a table becomes a list
+//! Written from the document and made for reading, with no code in common with the engine: a table becomes a list
 //! of records, a query becomes a tree whose nodes know their places, and the refusals are asked of these.
 
 /// A number from 1 to 7 with its place, or 0 and 0.

@@ -118,7 +118,7 @@ pub fn same_trust(a: Trust, b: Trust) -> bool
 }
 
 // Whether a cell is free.
-pub fn is_free(c: Cell) -> bool
+fn is_free(c: Cell) -> bool
     ensures { λ r. ⌜ r ≡ isFree (cellIn c) ⌝ }
 {
     match c {
