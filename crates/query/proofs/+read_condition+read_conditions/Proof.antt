@@ -10,8 +10,7 @@ use Rattle.query.proofs.ConditionParts.{conditionsAfter, condition-part
 use Rattle.query.proofs.ConditionParts.{condition-head-inside, conditions-fault, conditions-next}
 use borrow.Author.Needs.{needs}
 use lib.ListN.{length}
-use Prim.Native.Nat.{_+_, _*_}
-use Prim.Native.Nat.{ℕ, _<_}
+use Prim.Native.Nat.{_+_, _*_, ℕ, _<_}
 use borrow.Fn.Kinds.{In}
 use borrow.Fn.PlainCycle.{Measures, is, falls, and}
 use Rattle.query.proofs.read_condition.Reads as read-condition

@@ -37,38 +37,38 @@ enum-told-6 c = search needs
 
 returns : tie.Need-returns
 returns c =
-    c .read-patterns .ensures ∙ sym (ap (λ h. beforeOperands (c .before .before .before .before .before .args .q .now) h
-    (c .before .before .before .before .before .args .own)) (c .before .before .h .given .1))
+    let a = c .before .before .before .before .before .args in
+    c .read-patterns .ensures ∙ sym (ap (λ h. beforeOperands (a .q .now) h (a .own)) (c .before .before .h .given .1))
 
 returns-2 : tie.Need-returns-2
 returns-2 c =
-    sym (ap (λ h. beforeOperands (c .before .before .before .args .q .now) h (c .before .before .before .args .own))
-    (c .enum-told .given .1))
+    let a = c .before .before .before .args in
+    sym (ap (λ h. beforeOperands (a .q .now) h (a .own)) (c .enum-told .given .1))
 
 returns-3 : tie.Need-returns-3
 returns-3 c =
-    c .read-conditions .ensures ∙ sym (ap (λ h. beforeOperands (c .before .before .before .before .args .q .now) h
-    (c .before .before .before .before .args .own)) (c .before .enum-told2 .given .1))
+    let a = c .before .before .before .before .args in
+    c .read-conditions .ensures ∙ sym (ap (λ h. beforeOperands (a .q .now) h (a .own)) (c .before .enum-told2 .given .1))
 
 returns-4 : tie.Need-returns-4
 returns-4 c =
-    sym (ap (λ h. beforeOperands (c .before .before .before .args .q .now) h (c .before .before .before .args .own))
-    (c .enum-told3 .given .1))
+    let a = c .before .before .before .args in
+    sym (ap (λ h. beforeOperands (a .q .now) h (a .own)) (c .enum-told3 .given .1))
 
 returns-5 : tie.Need-returns-5
 returns-5 c =
-    c .read-conditions2 .ensures ∙ sym (ap (λ h. beforeOperands (c .before .before .before .before .args .q .now) h
-    (c .before .before .before .before .args .own)) (c .before .enum-told4 .given .1))
+    let a = c .before .before .before .before .args in
+    c .read-conditions2 .ensures ∙ sym (ap (λ h. beforeOperands (a .q .now) h (a .own)) (c .before .enum-told4 .given .1))
 
 returns-6 : tie.Need-returns-6
 returns-6 c =
-    sym (ap (λ h. beforeOperands (c .before .before .before .args .q .now) h (c .before .before .before .args .own))
-    (c .enum-told5 .given .1))
+    let a = c .before .before .before .args in
+    sym (ap (λ h. beforeOperands (a .q .now) h (a .own)) (c .enum-told5 .given .1))
 
 returns-7 : tie.Need-returns-7
 returns-7 c =
-    sym (ap (λ h. beforeOperands (c .before .before .before .args .q .now) h (c .before .before .before .args .own))
-    (c .enum-told6 .given .1))
+    let a = c .before .before .before .args in
+    sym (ap (λ h. beforeOperands (a .q .now) h (a .own)) (c .enum-told6 .given .1))
 
 pub before-operands-spec : {M : Type 1} → statement M
 before-operands-spec =

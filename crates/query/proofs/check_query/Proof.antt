@@ -1,7 +1,8 @@
 -- By the length, the reader of the node, and the first clash. Assumes nothing.
-use mathlib.Core.Path.{sym, ap, _∙_}
+use mathlib.Core.Path.{_≡_, sym, ap, _∙_}
 use native.Mathlib.Omega.{arith}
-use Rattle.tsparql.specs.Reading.{got, fault}
+use Rattle.tsparql.specs.Query.{Node}
+use Rattle.tsparql.specs.Reading.{got, fault, readNode}
 use Rattle.query.specs.Answers.{nodeFound, faultIn}
 use Rattle.query.specs.declared.Clash.the-variants as C
 use Rattle.query.specs.Variables.{clashIn}
@@ -33,15 +34,18 @@ returns-2 c =
     rw (c .node-fault .ensures ∙ ap faultIn told) (fault-checked (c .before .before .before .before .before .before .args .limit) _ s
     (omega arith) bad)
 
+-- the node that was found
+node-is : (c : tie.After-known-told) → (x : Node) × (readNode (c .before .before .before .before .before .before .args .q .now) ≡ got x
+    (c .before .r .given .0 .1 .0))
+node-is c =
+    let r = c .before .r .given in
+    head-node (got (r .0 .0) (r .0 .1 .0)) (c .before .before .before .before .before .before .args .q .now)
+    (sym (ap nodeFound (r .1)) ∙ c .before .before .before .read-node .ensures)
+
 first-clash-requires : tie.Need-first-clash-requires
 first-clash-requires c κs =
-    let s = c .before .before .before .before .before .before .before .args .q .now in
-    let limit = c .before .before .before .before .before .before .before .args .limit in
-    let next = c .before .before .r .given .0 .1 .0 in
-    let node =
-    head-node (got (c .before .before .r .given .0 .0) next) s (sym (ap nodeFound (c .before .before .r .given .1))
-    ∙ c .before .before .before .before .read-node .ensures) in
-    whole-sound next s (node .0) (node .1) (c .if2 .taken)
+    let node = node-is (c .before) in whole-sound _ (c .before .before .before .before .before .before .before .args .q .now) (node .0)
+    (node .1) (c .if2 .taken)
 
 enum-known-clash : tie.Need-enum-known-clash
 enum-known-clash c = search needs
@@ -51,37 +55,25 @@ enum-told-2 c = search needs
 
 returns-3 : tie.Need-returns-3
 returns-3 c =
-    let s = c .before .before .before .before .before .before .before .before .before .before .args .q .now in
-    let limit = c .before .before .before .before .before .before .before .before .before .before .args .limit in
-    let next = c .before .before .before .before .before .r .given .0 .1 .0 in
-    let node =
-    head-node (got (c .before .before .before .before .before .r .given .0 .0) next) s
-    (sym (ap nodeFound (c .before .before .before .before .before .r .given .1))
-    ∙ c .before .before .before .before .before .before .before .read-node .ensures) in
-    whole-checked limit next s (node .0) C.Nowhere (omega arith) (node .1) (c .before .before .before .if2 .taken)
+    let start = c .before .before .before .before .before .before .before .before .before .before in
+    let node = node-is (c .before .before .before .before) in
+    whole-checked (start .args .limit) _ (start .args .q .now) (node .0) C.Nowhere (omega arith) (node .1)
+    (c .before .before .before .if2 .taken)
     (sym (ap clashIn (c .enum-told2 .given .1)) ∙ c .before .before .first-clash .ensures)
 
 returns-4 : tie.Need-returns-4
 returns-4 c =
-    let s = c .before .before .before .before .before .before .before .before .before .before .before .args .q .now in
-    let limit = c .before .before .before .before .before .before .before .before .before .before .before .args .limit in
-    let next = c .before .before .before .before .before .before .r .given .0 .1 .0 in
-    let node =
-    head-node (got (c .before .before .before .before .before .before .r .given .0 .0) next) s
-    (sym (ap nodeFound (c .before .before .before .before .before .before .r .given .1))
-    ∙ c .before .before .before .before .before .before .before .before .read-node .ensures) in
-    whole-checked limit next s (node .0) (C.At _) (omega arith) (node .1) (c .before .before .before .before .if2 .taken)
+    let start = c .before .before .before .before .before .before .before .before .before .before .before in
+    let node = node-is (c .before .before .before .before .before) in
+    whole-checked (start .args .limit) _ (start .args .q .now) (node .0) (C.At _) (omega arith) (node .1)
+    (c .before .before .before .before .if2 .taken)
     (sym (ap clashIn (c .before .clash .given .1)) ∙ c .before .before .before .first-clash .ensures)
 
 returns-5 : tie.Need-returns-5
 returns-5 c =
-    let s = c .before .before .before .before .before .before .before .args .q .now in
-    let limit = c .before .before .before .before .before .before .before .args .limit in
-    let next = c .before .before .r .given .0 .1 .0 in
-    let node =
-    head-node (got (c .before .before .r .given .0 .0) next) s (sym (ap nodeFound (c .before .before .r .given .1))
-    ∙ c .before .before .before .before .read-node .ensures) in
-    surplus-checked limit next s (node .0) (omega arith) (node .1) (c .if2 .left)
+    let start = c .before .before .before .before .before .before .before in
+    let node = node-is (c .before) in
+    surplus-checked (start .args .limit) _ (start .args .q .now) (node .0) (omega arith) (node .1) (c .if2 .left)
 
 pub check-query-spec : {M : Type 1} → statement M
 check-query-spec =

@@ -2,15 +2,15 @@
 -- Assumes nothing.
 use mathlib.Core.Path.{_≡_, sym, ap, _∙_}
 use native.Mathlib.Omega.{arith}
-use lib.ListN.{drop}
+use lib.ListN.{drop, length}
+use Prim.Native.Nat.{_+_, _≤_, _-_}
+use Rattle.tsparql.specs.Reading.{got}
 use borrow.Author.Needs.{needs}
 use Rattle.query.specs.Answers.{placeFound}
 use Rattle.query.specs.Variables.{nodeOf, ownUses, nextNode}
 use Rattle.query.proofs.ReadLaws.{part-drop}
 use Rattle.query.proofs.Walk.{uses-start, uses-sound, uses-here, uses-found, uses-inside, uses-next, uses-end, ownUses-small}
 use Rattle.query.proofs.Walk.{UsesLeft}
-use lib.ListN.{length}
-use Prim.Native.Nat.{_-_}
 use Rattle.query.proofs.clashes.Statement.{statement}
 use Rattle.query.proofs.clashes.Tie as tie
 
@@ -34,31 +34,28 @@ part-own-uses-end c = search needs
 
 own-uses-requires : tie.Need-own-uses-requires Inv-loop μ-loop
 own-uses-requires c κs =
-    let s = c .before .before .before .before .args .q .now in
-    let v = c .before .before .before .before .args .v in
-    let at = c .before .before .loop .at in
-    let left = c .before .before .loop .inv in
-    rw (part-drop s at) (uses-sound left (omega arith))
+    let turn = c .before .before in
+    rw (part-drop (turn .before .before .args .q .now) (turn .loop .at)) (uses-sound (turn .loop .inv) (omega arith))
+
+-- in a turn: the uses of the node at hand
+own-is : (c : tie.After-own-uses Inv-loop μ-loop)
+    → let turn = c .before .before .before in
+    let start = turn .before .before in
+    c .own-uses .result ≡ ownUses (start .args .v) (nodeOf (drop (turn .loop .at) (start .args .q .now)))
+own-is c =
+    let turn = c .before .before .before in
+    let start = turn .before .before in
+    c .own-uses .ensures ∙ ap (λ t. ownUses (start .args .v) (nodeOf t)) (part-drop (start .args .q .now) (turn .loop .at))
 
 add-seen : tie.Need-add-seen Inv-loop μ-loop
 add-seen c =
-    let s = c .before .before .before .before .before .args .q .now in
-    let v = c .before .before .before .before .before .args .v in
-    let at = c .before .before .before .loop .at in
-    let left = c .before .before .before .loop .inv in
-    let own : c .own-uses .result ≡ ownUses v (nodeOf (drop at s)) =
-    c .own-uses .ensures ∙ ap (λ t. ownUses v (nodeOf t)) (part-drop s at) in
-    omega (arith, own, ownUses-small v (nodeOf (drop at s)), left .few)
+    let turn = c .before .before .before in
+    let start = turn .before .before in
+    let small = ownUses-small (start .args .v) (nodeOf (drop (turn .loop .at) (start .args .q .now))) in
+    omega (arith, own-is c, small, turn .loop .inv .few)
 
 returns : tie.Need-returns Inv-loop μ-loop
-returns c =
-    let s = c .before .before .before .before .before .before .args .q .now in
-    let v = c .before .before .before .before .before .before .args .v in
-    let at = c .before .before .before .before .loop .at in
-    let left = c .before .before .before .before .loop .inv in
-    let own : c .before .own-uses .result ≡ ownUses v (nodeOf (drop at s)) =
-    c .before .own-uses .ensures ∙ ap (λ t. ownUses v (nodeOf t)) (part-drop s at) in
-    sym (uses-here left (omega arith) (omega (arith, own)))
+returns c = sym (uses-here (c .before .before .before .before .loop .inv) (omega arith) (omega (arith, own-is (c .before))))
 
 sub-next-node : tie.Need-sub-next-node Inv-loop μ-loop
 sub-next-node c = search needs
@@ -80,47 +77,40 @@ enum-told c = search needs
 
 returns-2 : tie.Need-returns-2 Inv-loop μ-loop
 returns-2 c =
-    let s = c .before .before .before .before .before .before .before .before .before .before .args .q .now in
-    let v = c .before .before .before .before .before .before .before .before .before .before .args .v in
-    let at = c .before .before .before .before .before .before .before .before .loop .at in
-    let left = c .before .before .before .before .before .before .before .before .loop .inv in
-    let next : nextNode (drop at s) ≡ _ =
-    ap nextNode (sym (part-drop s at)) ∙ sym (c .before .before .next-node .ensures) ∙ ap placeFound (c .enum-told .given .1) in
-    absurd (uses-found left (omega arith) next)
+    let turn = c .before .before .before .before .before .before .before .before in
+    let next =
+    ap nextNode (sym (part-drop (turn .before .before .args .q .now) (turn .loop .at)))
+    ∙ sym (c .before .before .next-node .ensures)
+    ∙ ap placeFound (c .enum-told .given .1) in
+    absurd (uses-found (turn .loop .inv) (omega arith) next)
+
+-- in a turn: the next node
+next-is : (c : tie.After-known-told Inv-loop μ-loop)
+    → let turn = c .before .before .before .before .before .before .before .before .before in
+    nextNode (drop (turn .loop .at) (turn .before .before .args .q .now)) ≡ got tt (c .before .n .given .0 .0)
+next-is c =
+    let turn = c .before .before .before .before .before .before .before .before .before in
+    ap nextNode (sym (part-drop (turn .before .before .args .q .now) (turn .loop .at)))
+    ∙ sym (c .before .before .before .next-node .ensures)
+    ∙ ap placeFound (c .before .n .given .1)
+
+inside : (c : tie.After-known-told Inv-loop μ-loop)
+    → let turn = c .before .before .before .before .before .before .before .before .before in
+    let next = c .before .n .given .0 .0 in
+    (1 ≤ next) × (turn .loop .at + next ≤ length (turn .before .before .args .q .now))
+inside c = uses-inside (c .before .before .before .before .before .before .before .before .before .loop .inv) (omega arith) (next-is c)
 
 add-at : tie.Need-add-at Inv-loop μ-loop
-add-at c =
-    let s = c .before .before .before .before .before .before .before .before .before .before .before .args .q .now in
-    let v = c .before .before .before .before .before .before .before .before .before .before .before .args .v in
-    let at = c .before .before .before .before .before .before .before .before .before .loop .at in
-    let left = c .before .before .before .before .before .before .before .before .before .loop .inv in
-    let next : nextNode (drop at s) ≡ _ =
-    ap nextNode (sym (part-drop s at)) ∙ sym (c .before .before .before .next-node .ensures) ∙ ap placeFound (c .before .n .given .1) in
-    let inside = uses-inside left (omega arith) next in
-    omega (arith, inside .0, inside .1)
+add-at c = omega (arith, inside c .0, inside c .1)
 
 loop-less : tie.Need-loop-less Inv-loop μ-loop
-loop-less c =
-    let s = c .before .before .before .before .before .before .before .before .before .before .before .args .q .now in
-    let v = c .before .before .before .before .before .before .before .before .before .before .before .args .v in
-    let at = c .before .before .before .before .before .before .before .before .before .loop .at in
-    let left = c .before .before .before .before .before .before .before .before .before .loop .inv in
-    let next : nextNode (drop at s) ≡ _ =
-    ap nextNode (sym (part-drop s at)) ∙ sym (c .before .before .before .next-node .ensures) ∙ ap placeFound (c .before .n .given .1) in
-    let inside = uses-inside left (omega arith) next in
-    omega (arith, inside .0, inside .1)
+loop-less c = omega (arith, inside c .0, inside c .1)
 
 loop-again : tie.Need-loop-again Inv-loop μ-loop
 loop-again c =
-    let s = c .before .before .before .before .before .before .before .before .before .before .before .args .q .now in
-    let v = c .before .before .before .before .before .before .before .before .before .before .before .args .v in
-    let at = c .before .before .before .before .before .before .before .before .before .loop .at in
-    let left = c .before .before .before .before .before .before .before .before .before .loop .inv in
-    let own : c .before .before .before .before .before .before .own-uses .result ≡ ownUses v (nodeOf (drop at s)) =
-    c .before .before .before .before .before .before .own-uses .ensures ∙ ap (λ t. ownUses v (nodeOf t)) (part-drop s at) in
-    let next : nextNode (drop at s) ≡ _ =
-    ap nextNode (sym (part-drop s at)) ∙ sym (c .before .before .before .next-node .ensures) ∙ ap placeFound (c .before .n .given .1) in
-    rw own (uses-next left (omega arith) next (omega (arith, own)))
+    let own = own-is (c .before .before .before .before .before .before) in
+    rw own (uses-next (c .before .before .before .before .before .before .before .before .before .loop .inv) (omega arith) (next-is c)
+    (omega (arith, own)))
 
 returns-3 : tie.Need-returns-3 Inv-loop μ-loop
 returns-3 c = sym (uses-end (c .before .loop .inv) (omega arith))

@@ -1,15 +1,14 @@
 -- The invariant: the first clash among the nodes left is the query's. The measure is what is left of the query. Assumes nothing.
 use mathlib.Core.Path.{_≡_, sym, ap, _∙_}
 use native.Mathlib.Omega.{arith}
-use lib.ListN.{drop}
+use lib.ListN.{drop, length}
+use Prim.Native.Nat.{_+_, _≤_, _-_}
+use Rattle.tsparql.specs.Reading.{got}
 use borrow.Author.Needs.{needs}
 use Rattle.query.specs.Answers.{placeFound}
 use Rattle.query.specs.Variables.{nextNode}
 use Rattle.query.proofs.ReadLaws.{part-drop}
-use Rattle.query.proofs.Walk.{clash-start, clash-is, clash-found, clash-inside, clash-next, clash-none}
-use Rattle.query.proofs.Walk.{ClashLeft}
-use lib.ListN.{length}
-use Prim.Native.Nat.{_-_}
+use Rattle.query.proofs.Walk.{clash-start, clash-is, clash-found, clash-inside, clash-next, clash-none, ClashLeft}
 use Rattle.query.proofs.first_clash.Statement.{statement}
 use Rattle.query.proofs.first_clash.Tie as tie
 
@@ -48,42 +47,39 @@ enum-told c = search needs
 
 returns-2 : tie.Need-returns-2 Inv-loop μ-loop
 returns-2 c =
-    let s = c .before .before .before .before .before .before .before .before .before .args .q .now in
-    let at = c .before .before .before .before .before .before .before .loop .at in
-    let left = c .before .before .before .before .before .before .before .loop .inv in
-    let next : nextNode (drop at s) ≡ _ =
-    ap nextNode (sym (part-drop s at)) ∙ sym (c .before .before .next-node .ensures) ∙ ap placeFound (c .enum-told .given .1) in
-    absurd (clash-found left (omega arith) next)
+    let turn = c .before .before .before .before .before .before .before in
+    let next =
+    ap nextNode (sym (part-drop (turn .before .before .args .q .now) (turn .loop .at)))
+    ∙ sym (c .before .before .next-node .ensures)
+    ∙ ap placeFound (c .enum-told .given .1) in
+    absurd (clash-found (turn .loop .inv) (omega arith) next)
+
+-- in a turn: the next node
+next-is : (c : tie.After-known-told Inv-loop μ-loop)
+    → let turn = c .before .before .before .before .before .before .before .before in
+    nextNode (drop (turn .loop .at) (turn .before .before .args .q .now)) ≡ got tt (c .before .n .given .0 .0)
+next-is c =
+    let turn = c .before .before .before .before .before .before .before .before in
+    ap nextNode (sym (part-drop (turn .before .before .args .q .now) (turn .loop .at)))
+    ∙ sym (c .before .before .before .next-node .ensures)
+    ∙ ap placeFound (c .before .n .given .1)
+
+inside : (c : tie.After-known-told Inv-loop μ-loop)
+    → let turn = c .before .before .before .before .before .before .before .before in
+    let next = c .before .n .given .0 .0 in
+    (1 ≤ next) × (turn .loop .at + next ≤ length (turn .before .before .args .q .now))
+inside c = clash-inside (c .before .before .before .before .before .before .before .before .loop .inv) (omega arith) (next-is c)
 
 add-at : tie.Need-add-at Inv-loop μ-loop
-add-at c =
-    let s = c .before .before .before .before .before .before .before .before .before .before .args .q .now in
-    let at = c .before .before .before .before .before .before .before .before .loop .at in
-    let left = c .before .before .before .before .before .before .before .before .loop .inv in
-    let next : nextNode (drop at s) ≡ _ =
-    ap nextNode (sym (part-drop s at)) ∙ sym (c .before .before .before .next-node .ensures) ∙ ap placeFound (c .before .n .given .1) in
-    let inside = clash-inside left (omega arith) next in
-    omega (arith, inside .0, inside .1)
+add-at c = omega (arith, inside c .0, inside c .1)
 
 loop-less : tie.Need-loop-less Inv-loop μ-loop
-loop-less c =
-    let s = c .before .before .before .before .before .before .before .before .before .before .args .q .now in
-    let at = c .before .before .before .before .before .before .before .before .loop .at in
-    let left = c .before .before .before .before .before .before .before .before .loop .inv in
-    let next : nextNode (drop at s) ≡ _ =
-    ap nextNode (sym (part-drop s at)) ∙ sym (c .before .before .before .next-node .ensures) ∙ ap placeFound (c .before .n .given .1) in
-    let inside = clash-inside left (omega arith) next in
-    omega (arith, inside .0, inside .1)
+loop-less c = omega (arith, inside c .0, inside c .1)
 
 loop-again : tie.Need-loop-again Inv-loop μ-loop
 loop-again c =
-    let s = c .before .before .before .before .before .before .before .before .before .before .args .q .now in
-    let at = c .before .before .before .before .before .before .before .before .loop .at in
-    let left = c .before .before .before .before .before .before .before .before .loop .inv in
-    let next : nextNode (drop at s) ≡ _ =
-    ap nextNode (sym (part-drop s at)) ∙ sym (c .before .before .before .next-node .ensures) ∙ ap placeFound (c .before .n .given .1) in
-    clash-next left (omega arith) next (sym (c .before .before .before .before .before .before .clash-at .ensures)
-    ∙ c .before .before .before .before .before .if1 .left)
+    clash-next (c .before .before .before .before .before .before .before .before .loop .inv) (omega arith) (next-is c)
+    (sym (c .before .before .before .before .before .before .clash-at .ensures) ∙ c .before .before .before .before .before .if1 .left)
 
 returns-3 : tie.Need-returns-3 Inv-loop μ-loop
 returns-3 c = sym (clash-none (c .before .loop .inv) (omega arith))

@@ -1,15 +1,14 @@
 -- The invariant: the patterns left have the variable exactly if all have it. The measure is how many are left. Assumes nothing.
-use mathlib.Core.Path.{refl, sym, ap, _∙_}
+use mathlib.Core.Path.{_≡_, refl, sym, ap, _∙_}
 use native.Mathlib.Omega.{arith}
 use Rattle.tsparql.specs.Reading.{readPattern}
 use Rattle.query.specs.Answers.{patternFound}
 use Rattle.query.proofs.ReadLaws.{part-drop, placeOf}
 use Rattle.query.proofs.PatternParts.{pattern-part}
 use borrow.Author.Needs.{needs}
-use Rattle.query.proofs.Walk.{have-none, have-fault, have-here, have-next}
-use Rattle.query.proofs.Walk.{HaveLeft}
-use lib.ListN.{length}
-use Prim.Native.Nat.{_≤_}
+use Rattle.query.proofs.Walk.{have-none, have-fault, have-here, have-next, HaveLeft}
+use lib.ListN.{length, drop}
+use Prim.Native.Nat.{_+_, _≤_}
 use Rattle.query.proofs.patterns_have.Statement.{statement}
 use Rattle.query.proofs.patterns_have.Tie as tie
 
@@ -34,6 +33,22 @@ part-read-pattern-end c = search needs
 read-pattern-requires : tie.Need-read-pattern-requires Inv-loop μ-loop
 read-pattern-requires c κs = search needs
 
+-- in a turn: the pattern at hand
+read-is : (c : tie.After-read-pattern Inv-loop μ-loop)
+    → let turn = c .before .before .before in
+    readPattern (drop (turn .loop .p) (turn .before .before .args .q .now)) ≡ patternFound (c .read-pattern .result)
+read-is c =
+    let turn = c .before .before .before in
+    ap readPattern (sym (part-drop (turn .before .before .args .q .now) (turn .loop .p))) ∙ sym (c .read-pattern .ensures)
+
+-- and the place behind it
+inside : (c : tie.After-read-pattern Inv-loop μ-loop)
+    → let turn = c .before .before .before in
+    turn .loop .p + placeOf (patternFound (c .read-pattern .result)) ≤ length (turn .before .before .args .q .now)
+inside c =
+    let turn = c .before .before .before in
+    pattern-part (turn .before .before .args .q .now) (turn .loop .p) _ (c .read-pattern .ensures) (omega arith)
+
 enum-known-r : tie.Need-enum-known-r Inv-loop μ-loop
 enum-known-r c = search needs
 
@@ -42,34 +57,21 @@ enum-told c = search needs
 
 returns : tie.Need-returns Inv-loop μ-loop
 returns c =
-    let s = c .before .before .before .before .before .before .before .args .q .now in
-    let p = c .before .before .before .before .before .loop .p in
-    let found =
-    ap readPattern (sym (part-drop s p)) ∙ sym (c .before .before .read-pattern .ensures) ∙ ap patternFound (c .enum-told .given .1) in
-    absurd (have-fault (c .before .before .before .before .before .loop .inv .0) (omega arith) found)
+    absurd (have-fault (c .before .before .before .before .before .loop .inv .0) (omega arith)
+    (read-is (c .before .before) ∙ ap patternFound (c .enum-told .given .1)))
 
 pattern-has-requires : tie.Need-pattern-has-requires Inv-loop μ-loop
 pattern-has-requires c κs = search needs
 
 returns-2 : tie.Need-returns-2 Inv-loop μ-loop
 returns-2 c =
-    let s = c .before .before .before .before .before .before .before .before .before .before .args .q .now in
-    let p = c .before .before .before .before .before .before .before .before .loop .p in
-    let found =
-    ap readPattern (sym (part-drop s p)) ∙ sym (c .before .before .before .before .before .read-pattern .ensures)
-    ∙ ap patternFound (c .before .before .before .r .given .1) in
+    let found = read-is (c .before .before .before .before .before) ∙ ap patternFound (c .before .before .before .r .given .1) in
     sym (have-here (c .before .before .before .before .before .before .before .before .loop .inv .0) (omega arith) found
     (sym (c .before .pattern-has .ensures) ∙ c .if1 .taken))
 
 add-p : tie.Need-add-p Inv-loop μ-loop
 add-p c =
-    let s = c .before .before .before .before .before .before .before .before .before .before .args .q .now in
-    let p = c .before .before .before .before .before .before .before .before .loop .p in
-    omega (
-      arith,
-      pattern-part s p _ (c .before .before .before .before .before .read-pattern .ensures) (omega arith),
-      ap placeOf (ap patternFound (c .before .before .before .r .given .1)),
-    )
+    omega (arith, inside (c .before .before .before .before .before), ap placeOf (ap patternFound (c .before .before .before .r .given .1)))
 
 sub-left : tie.Need-sub-left Inv-loop μ-loop
 sub-left c = search needs
@@ -79,15 +81,12 @@ loop-less c = search needs
 
 loop-again : tie.Need-loop-again Inv-loop μ-loop
 loop-again c =
-    let s = c .before .before .before .before .before .before .before .before .before .before .args .q .now in
-    let p = c .before .before .before .before .before .before .before .before .loop .p in
-    let found = ap readPattern (sym (part-drop s p)) ∙ sym (c .before .before .before .before .before .read-pattern .ensures)
-    ∙ ap patternFound (c .before .before .before .r .given .1) in (
+    let found = read-is (c .before .before .before .before .before) ∙ ap patternFound (c .before .before .before .r .given .1) in (
       have-next (c .before .before .before .before .before .before .before .before .loop .inv .0) (omega arith) found
           (sym (c .before .pattern-has .ensures) ∙ c .if1 .left),
       omega (
         arith,
-        pattern-part s p _ (c .before .before .before .before .before .read-pattern .ensures) (omega arith),
+        inside (c .before .before .before .before .before),
         ap placeOf (ap patternFound (c .before .before .before .r .given .1)),
       ),
     )

@@ -1,7 +1,8 @@
 -- By the head. Assumes nothing.
-use mathlib.Core.Path.{sym, ap, _∙_}
+use mathlib.Core.Path.{_≡_, sym, ap, _∙_}
 use Rattle.query.specs.Answers.{nodeFound}
-use Rattle.query.specs.Variables.{headVariable, foundVariable}
+use Rattle.query.specs.Variables.{headVariable, foundVariable, projectedIn}
+use Rattle.query.specs.declared.Head.{Head}
 use borrow.Author.Needs.{needs}
 use Rattle.query.proofs.projected.Statement.{statement}
 use Rattle.query.proofs.projected.Tie as tie
@@ -39,40 +40,32 @@ enum-known-head c = search needs
 enum-told-7 : tie.Need-enum-told-7
 enum-told-7 c = search needs
 
+-- the variable, by the head's case
+variable-by : (c : tie.After-known-told) (h : Head) → c .before .h .given .0 .0 ≡ h
+    → headVariable h ≡ projectedIn (c .before .before .before .before .before .args .q .now)
+variable-by c h e =
+    sym (ap foundVariable (sym (c .before .before .before .read-head .ensures) ∙ ap nodeFound (c .before .h .given .1)) ∙ ap headVariable e)
+
 returns-2 : tie.Need-returns-2
-returns-2 c =
-    sym (ap foundVariable (sym (c .before .before .before .before .before .read-head .ensures)
-    ∙ ap nodeFound (c .before .before .before .h .given .1)) ∙ ap headVariable (c .enum-told2 .given .1))
+returns-2 c = variable-by (c .before .before) _ (c .enum-told2 .given .1)
 
 returns-3 : tie.Need-returns-3
-returns-3 c =
-    sym (ap foundVariable (sym (c .before .before .before .before .before .read-head .ensures)
-    ∙ ap nodeFound (c .before .before .before .h .given .1)) ∙ ap headVariable (c .enum-told3 .given .1))
+returns-3 c = variable-by (c .before .before) _ (c .enum-told3 .given .1)
 
 returns-4 : tie.Need-returns-4
-returns-4 c =
-    sym (ap foundVariable (sym (c .before .before .before .before .before .read-head .ensures)
-    ∙ ap nodeFound (c .before .before .before .h .given .1)) ∙ ap headVariable (c .enum-told4 .given .1))
+returns-4 c = variable-by (c .before .before) _ (c .enum-told4 .given .1)
 
 returns-5 : tie.Need-returns-5
-returns-5 c =
-    sym (ap foundVariable (sym (c .before .before .before .before .before .read-head .ensures)
-    ∙ ap nodeFound (c .before .before .before .h .given .1)) ∙ ap headVariable (c .enum-told5 .given .1))
+returns-5 c = variable-by (c .before .before) _ (c .enum-told5 .given .1)
 
 returns-6 : tie.Need-returns-6
-returns-6 c =
-    sym (ap foundVariable (sym (c .before .before .before .before .before .read-head .ensures)
-    ∙ ap nodeFound (c .before .before .before .h .given .1)) ∙ ap headVariable (c .enum-told6 .given .1))
+returns-6 c = variable-by (c .before .before) _ (c .enum-told6 .given .1)
 
 returns-7 : tie.Need-returns-7
-returns-7 c =
-    sym (ap foundVariable (sym (c .before .before .before .before .before .before .read-head .ensures)
-    ∙ ap nodeFound (c .before .before .before .before .h .given .1)) ∙ ap headVariable (c .before .head .given .1))
+returns-7 c = variable-by (c .before .before .before) _ (c .before .head .given .1)
 
 returns-8 : tie.Need-returns-8
-returns-8 c =
-    sym (ap foundVariable (sym (c .before .before .before .before .before .read-head .ensures)
-    ∙ ap nodeFound (c .before .before .before .h .given .1)) ∙ ap headVariable (c .enum-told7 .given .1))
+returns-8 c = variable-by (c .before .before) _ (c .enum-told7 .given .1)
 
 pub projected-spec : {M : Type 1} → statement M
 projected-spec =

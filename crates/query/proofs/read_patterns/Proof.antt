@@ -1,8 +1,8 @@
 -- The invariant: what is left to read from the place reached is what was to be read. The measure is how many are left. Assumes nothing.
 use mathlib.Core.Path.{_≡_, refl, sym, ap, _∙_}
-use Prim.Native.Nat.{_≤_}
+use Prim.Native.Nat.{_+_, _≤_}
 use native.Mathlib.Omega.{arith}
-use lib.ListN.{length}
+use lib.ListN.{length, drop}
 use Rattle.tsparql.specs.Reading.{readPattern}
 use Rattle.query.specs.Answers.{patternFound}
 use Rattle.query.specs.Parts.{patternsFrom}
@@ -33,6 +33,22 @@ part-read-pattern-end c = search needs
 read-pattern-requires : tie.Need-read-pattern-requires Inv-loop μ-loop
 read-pattern-requires c κs = search needs
 
+-- in a turn: the pattern at hand
+read-is : (c : tie.After-read-pattern Inv-loop μ-loop)
+    → let turn = c .before .before .before in
+    readPattern (drop (turn .loop .p) (turn .before .before .args .q .now)) ≡ patternFound (c .read-pattern .result)
+read-is c =
+    let turn = c .before .before .before in
+    ap readPattern (sym (part-drop (turn .before .before .args .q .now) (turn .loop .p))) ∙ sym (c .read-pattern .ensures)
+
+-- and the place behind it
+inside : (c : tie.After-read-pattern Inv-loop μ-loop)
+    → let turn = c .before .before .before in
+    turn .loop .p + placeOf (patternFound (c .read-pattern .result)) ≤ length (turn .before .before .args .q .now)
+inside c =
+    let turn = c .before .before .before in
+    pattern-part (turn .before .before .args .q .now) (turn .loop .p) _ (c .read-pattern .ensures) (omega arith)
+
 enum-known-r : tie.Need-enum-known-r Inv-loop μ-loop
 enum-known-r c = search needs
 
@@ -41,22 +57,12 @@ enum-told c = search needs
 
 returns : tie.Need-returns Inv-loop μ-loop
 returns c =
-    let bad =
-    ap readPattern (sym (part-drop (c .before .before .before .before .before .before .before .args .q .now)
-    (c .before .before .before .before .before .loop .p))) ∙ sym (c .before .before .read-pattern .ensures)
-    ∙ ap patternFound (c .enum-told .given .1) in
-    sym (c .before .before .before .before .before .loop .inv .0 ∙ patterns-fault
-    (c .before .before .before .before .before .before .before .args .q .now) (c .before .before .before .before .before .loop .p)
-    (c .before .before .before .before .before .loop .left) _ (omega arith) bad)
+    let turn = c .before .before .before .before .before in
+    let bad = read-is (c .before .before) ∙ ap patternFound (c .enum-told .given .1) in
+    sym (turn .loop .inv .0 ∙ patterns-fault (turn .before .before .args .q .now) (turn .loop .p) (turn .loop .left) _ (omega arith) bad)
 
 add-p : tie.Need-add-p Inv-loop μ-loop
-add-p c =
-    omega (
-      arith,
-      pattern-part (c .before .before .before .before .before .before .before .before .args .q .now)
-          (c .before .before .before .before .before .before .loop .p) _ (c .before .before .before .read-pattern .ensures) (omega arith),
-      ap placeOf (ap patternFound (c .before .r .given .1)),
-    )
+add-p c = omega (arith, inside (c .before .before .before), ap placeOf (ap patternFound (c .before .r .given .1)))
 
 sub-left : tie.Need-sub-left Inv-loop μ-loop
 sub-left c = search needs
@@ -66,22 +72,16 @@ loop-less c = search needs
 
 loop-again : tie.Need-loop-again Inv-loop μ-loop
 loop-again c =
-    let s = c .before .before .before .before .before .before .before .before .args .q .now in
-    let p = c .before .before .before .before .before .before .loop .p in
-    let found =
-    ap readPattern (sym (part-drop (c .before .before .before .before .before .before .before .before .args .q .now)
-    (c .before .before .before .before .before .before .loop .p))) ∙ sym (c .before .before .before .read-pattern .ensures)
-    ∙ ap patternFound (c .before .r .given .1) in
-    let inside = pattern-part s p _ (c .before .before .before .read-pattern .ensures) (omega arith) in (
-      c .before .before .before .before .before .before .loop .inv .0 ∙ patterns-next s p
-          (c .before .before .before .before .before .before .loop .left) _ _ (omega arith) found,
-      omega (arith, inside, ap placeOf (ap patternFound (c .before .r .given .1))),
+    let turn = c .before .before .before .before .before .before in
+    let found = read-is (c .before .before .before) ∙ ap patternFound (c .before .r .given .1) in (
+      turn .loop .inv .0 ∙ patterns-next (turn .before .before .args .q .now) (turn .loop .p) (turn .loop .left) _ _ (omega arith) found,
+      omega (arith, inside (c .before .before .before), ap placeOf (ap patternFound (c .before .r .given .1))),
     )
 
 returns-2 : tie.Need-returns-2 Inv-loop μ-loop
 returns-2 c =
-    sym (c .before .loop .inv .0 ∙ patterns-none (c .before .before .before .args .q .now) (c .before .loop .p) (c .before .loop .left)
-    (omega arith))
+    let turn = c .before in
+    sym (turn .loop .inv .0 ∙ patterns-none (turn .before .before .args .q .now) (turn .loop .p) (turn .loop .left) (omega arith))
 
 pub read-patterns-spec : {M : Type 1} → statement M
 read-patterns-spec =
