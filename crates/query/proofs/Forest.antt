@@ -23,7 +23,7 @@ use Rattle.query.specs.declared.Head.{Head}
 use Rattle.query.specs.declared.Head.the-variants as H
 use Rattle.query.specs.Answers.{nodeHead}
 use Rattle.query.specs.Parts.{conditionsFrom, nodeHeadRead, beforeOperands}
-use Rattle.query.proofs.ReadLaws.{by-kind}
+use Rattle.query.proofs.ReadLaws.{by-kind, fault-not-got}
 use Rattle.query.proofs.NodeParts.{one-condition}
 
 -- ---- nodes one behind the other
@@ -79,7 +79,7 @@ one-found s at f x n e = go (readNode (drop at s)) refl e
     go : (r : Read Node) → readNode (drop at s) ≡ r → andThen at r (λ a next. got (f a) next) ≡ got x n
         → (a : Node) × (x ≡ f a) × ReadsAll s at (a ∷ []) n
     go (got a m) h d = (a, cc, (m, h, cc))
-    go (fault p) h d = absurd (let z : _≡_ {A = ℕ} 0 1 = cc in omega arith)
+    go (fault p) h d = absurd (fault-not-got d)
 
 two-found : (s : List ℕ) (at : ℕ) (f : Node → Node → Node) (x : Node) (n : ℕ) → twoNodes readNode s at f ≡ got x n
     → (a : Node) × (b : Node) × (x ≡ f a b) × ReadsAll s at (a ∷ b ∷ []) n
@@ -90,7 +90,7 @@ two-found s at f x n e = go (readNode (drop at s)) refl e
     go (got a m) h d =
         let rest = one-found s (at + m) (f a) x n d in
         (a, rest .0, rest .1, (m, h, rest .2))
-    go (fault p) h d = absurd (let z : _≡_ {A = ℕ} 0 1 = cc in omega arith)
+    go (fault p) h d = absurd (fault-not-got d)
 
 -- a condition was read, of its size
 condition-found : (s : List ℕ) (k : Condition → ℕ → Read Node) (x : Node) (n : ℕ) → afterCondition s k ≡ got x n
@@ -100,7 +100,7 @@ condition-found s k x n e = go (readCondition (drop 1 s)) refl (readCondition-so
     go : (r : Read Condition) → readCondition (drop 1 s) ≡ r → ReadsCondition (drop 1 s) r → andThen 1 r k ≡ got x n
         → (c : Condition) × (readCondition (drop 1 s) ≡ got c (conditionSize c)) × (k c (1 + conditionSize c) ≡ got x n)
     go (got c m) h w d = (c, h ∙ ap (got c) (w .1 .size), rw (w .1 .size) at d)
-    go (fault p) h w d = absurd (let z : _≡_ {A = ℕ} 0 1 = cc in omega arith)
+    go (fault p) h w d = absurd (fault-not-got d)
 
 -- the place behind it
 condition-before : (s : List ℕ) (c : Condition) → readCondition (drop 1 s) ≡ got c (conditionSize c)
@@ -109,7 +109,7 @@ condition-before s c e = one-condition s 1 ∙ rw e
 
 require-found : {A : Type 0} (b : Bool) (r : Read A) (x : A) (n : ℕ) → require b r ≡ got x n → (b ≡ true) × (r ≡ got x n)
 require-found true r x n e = (refl, e)
-require-found false r x n e = absurd (let z : _≡_ {A = ℕ} 0 1 = cc in omega arith)
+require-found false r x n e = absurd (fault-not-got e)
 
 set-found : (s : List ℕ) (k : ℕ) (x : Node) (n : ℕ) → nodeHeadRead s ≡ got (H.PatternSet k) 1
     → andThen 1 (readPatterns k (drop 1 s)) (λ ps next. got (patternSet ps) next) ≡ got x n → NodeFound s x n
@@ -129,7 +129,7 @@ set-found s k x n head e = go (readPatterns k (drop 1 s)) refl (readPatterns-sou
           operands-are = refl;
           patterns-are = (m, rw count h);
         })
-    go (fault p) h w d = absurd (let z : _≡_ {A = ℕ} 0 1 = cc in omega arith)
+    go (fault p) h w d = absurd (fault-not-got d)
 
 -- ---- a node that was read
 
@@ -159,7 +159,7 @@ module _ (s : List ℕ) (x : Node) (n : ℕ) where
       other h i l = ne-eqb (kindOf s) i (λ z. omega arith)
 
       start : (b : Bool) → eqb (length s) 0 ≡ b → NodeFound s x n
-      start true d = absurd (let z : _≡_ {A = ℕ} 0 1 = cc (rw d at e) in omega arith)
+      start true d = absurd (fault-not-got (rw d at e))
       start false d =
           by-kind (kindOf s)
           (λ k. set-found s (lowOf s) x n (rw (d, k)) (rw (d, k) at e))
@@ -207,11 +207,11 @@ module _ (s : List ℕ) (x : Node) (n : ℕ) where
           let parts = one-found s 4 (ensureTrust lower upper) x n (g .1) in
           rw (parts .1)
           (record { own = 4; head-is = rw (d, k, h .0, g .0); before-is = refl; operands-are = parts .2; patterns-are = tt }))
-          (λ k. absurd (let z : _≡_ {A = ℕ} 0 1 = cc (rw (d, k) at e) in omega arith))
+          (λ k. absurd (fault-not-got (rw (d, k) at e)))
           (λ k.
           absurd
-          (let z : _≡_ {A = ℕ} 0 1 =
-          cc (rw (
+          (fault-not-got
+          (rw (
             d,
             other k 0 (omega arith),
             other k 1 (omega arith),
@@ -220,8 +220,7 @@ module _ (s : List ℕ) (x : Node) (n : ℕ) where
             other k 4 (omega arith),
             other k 5 (omega arith),
             other k 6 (omega arith),
-          ) at e) in
-          omega arith))
+          ) at e)))
 
 -- a node that was read is its parts
 pub node-found : (s : List ℕ) (x : Node) (n : ℕ) → readNode s ≡ got x n → NodeFound s x n
@@ -235,7 +234,7 @@ read-size s x n e = go (readNode s) e (readNode-sound s)
   where
     go : (r : Read Node) → r ≡ got x n → ReadsNode s r → n ≡ nodeSize x
     go (got y m) d h = let is : y ≡ x = cc in let k : m ≡ n = cc in sym k ∙ h .1 .size ∙ ap nodeSize is
-    go (fault p) d h = absurd (let z : _≡_ {A = ℕ} 0 1 = cc in omega arith)
+    go (fault p) d h = absurd (fault-not-got d)
 
 readsAll-shift : (s : List ℕ) (by at : ℕ) (xs : List Node) (end : ℕ) → ReadsAll (drop by s) at xs end → ReadsAll s (by + at) xs (by + end)
 readsAll-shift s by at [] end h = ap (λ n. by + n) h
@@ -271,4 +270,4 @@ forest-end s at (x ∷ xs) l h =
   where
     inside : (r : Read Node) → r ≡ got x (h .0) → ReadsNode (drop at s) r → h .0 ≤ length (drop at s)
     inside (got y m) d w = let k : m ≡ h .0 = cc in omega (arith, w .1 .inside)
-    inside (fault p) d w = absurd (let z : _≡_ {A = ℕ} 0 1 = cc in omega arith)
+    inside (fault p) d w = absurd (fault-not-got d)

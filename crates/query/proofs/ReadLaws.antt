@@ -1,6 +1,6 @@
 -- Laws of places: what was found through mapRead, shift and follow; a part of a slice is what drop leaves; a number by its cases.
 -- Assumes nothing.
-use mathlib.Core.Path.{_≡_, refl, _∙_}
+use mathlib.Core.Path.{_≡_, refl, sym, ap, _∙_}
 use mathlib.Core.Bool.{Bool, true, false, cond}
 use mathlib.Core.List.{List}
 use Prim.Native.Nat.{ℕ, zero, suc, _+_, _-_, _≤_}
@@ -14,6 +14,14 @@ use Rattle.query.specs.Answers.{faultIn}
 -- the list of the part of a slice from a place on
 pub part-drop : (s : List ℕ) (at : ℕ) → take (length s - at) (drop at s) ≡ drop at s
 part-drop s at = take-all (length s - at) (drop at s) (omega (arith, length-drop at s))
+
+-- what was read of such a part was read of what drop leaves
+pub on-part : {A : Type 0} (f : List ℕ → A) (s : List ℕ) (at : ℕ) {r : A} → r ≡ f (take (length s - at) (drop at s)) → f (drop at s) ≡ r
+on-part f s at e = sym (e ∙ ap f (part-drop s at))
+
+-- a fault is no find
+pub fault-not-got : {A : Type 0} {a : A} {n p : ℕ} → _≡_ {A = Read A} (fault p) (got a n) → ⊥
+fault-not-got e = let z : _≡_ {A = ℕ} 0 1 = cc in omega arith
 
 -- what follows a fault, and what follows a find, where only the place matters
 module _ {A B : Type 0} (f : A → B) where

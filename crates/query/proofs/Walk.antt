@@ -28,6 +28,7 @@ use Rattle.query.specs.declared.QueryAnswer.the-variants as A
 use Rattle.query.specs.Parts.{mapRead, nodeHeadRead}
 use Rattle.query.specs.Variables.{has, IsGot, PatternsSound, patternsOf, NodeSound, nodeOf, ownUses, nextNode}
 use Rattle.query.specs.Variables.{headVariable, foundVariable, projectedIn, QuerySound, clashesWith, clashAt, clashIn, Checked}
+use Rattle.query.proofs.ReadLaws.{fault-not-got}
 use Rattle.query.proofs.Forest.{ReadsAll, operandsIn, operandsAt, PatternsRead, node-found, read-size, forest-step, forest-end}
 use Rattle.query.proofs.Uses.{uses, forestUses, forestUses-step, occurrences-append, uses-clashes, forestProjections, ownProjection}
 use Rattle.query.proofs.Uses.{clash-pass, clash-free, clash-here}
@@ -174,7 +175,7 @@ next-inside s at k xs l h e =
     )
 
 pub next-found : (s : List ℕ) (at p : ℕ) (xs : List Node) → at < length s → ReadsAll s at xs (length s) → nextNode (drop at s) ≡ fault p → ⊥
-next-found s at p xs l h e = let here = node-here s at xs l h in let z : _≡_ {A = ℕ} 0 1 = cc in omega arith
+next-found s at p xs l h e = fault-not-got (sym e ∙ node-here s at xs l h .next)
 
 -- ---- a node by its head
 
@@ -226,7 +227,7 @@ pub head-sound : (s : List ℕ) {p : ℕ} → NodeSound s → nodeHeadRead s ≡
 head-sound s sound e = go (readNode s) refl
   where
     go : (r : Read Node) → readNode s ≡ r → ⊥
-    go (got x n) d = let f = node-found s x n d in let z : _≡_ {A = ℕ} 0 1 = cc (f .head-is) in omega arith
+    go (got x n) d = fault-not-got (sym e ∙ node-found s x n d .head-is)
     go (fault p) d = rw d at sound
 
 -- a node uses a variable at most twice itself
@@ -279,12 +280,6 @@ module _ {v : ℕ} {s : List ℕ} {at seen : ℕ} (h : UsesLeft v s at seen) whe
 
   pub uses-sound : at < length s → NodeSound (drop at s)
   uses-sound l = rw (here l .read) tt
-
-  pub uses-inside : {k : ℕ} → at < length s → nextNode (drop at s) ≡ got tt k → (1 ≤ k) × (at + k ≤ length s)
-  uses-inside {k} l e = next-inside s at k (h .forest) l (h .reads) e
-
-  pub uses-found : {p : ℕ} → at < length s → nextNode (drop at s) ≡ fault p → ⊥
-  uses-found {p} l e = next-found s at p (h .forest) l (h .reads) e
 
   -- the uses of this node, and of those behind its head
   split : (l : at < length s)
@@ -361,21 +356,15 @@ read-formed s x n e = go (readNode s) e (readNode-sound s)
   where
     go : (r : Read Node) → r ≡ got x n → ReadsNode s r → NodeFormed x
     go (got y m) d h = let is : y ≡ x = cc in rw is at (h .0)
-    go (fault p) d h = absurd (let z : _≡_ {A = ℕ} 0 1 = cc in omega arith)
+    go (fault p) d h = absurd (fault-not-got d)
 
-and-true : (a b : Bool) → a && b ≡ true → (a ≡ true) × (b ≡ true)
-and-true true b e = (refl, e)
-and-true false b e = absurd (let z : _≡_ {A = ℕ} 0 1 = cc in omega arith)
+both-true : (a b : Bool) → a && b ≡ true → (a ≡ true) × (b ≡ true)
+both-true true b e = (refl, e)
+both-true false b e = absurd (let z : _≡_ {A = ℕ} 0 1 = cc in omega arith)
 
 module _ {s : List ℕ} {at : ℕ} (h : ClashLeft s at) where
   met : at < length s → NodeHere s at (h .forest)
   met l = node-here s at (h .forest) l (h .reads)
-
-  pub clash-inside : {k : ℕ} → at < length s → nextNode (drop at s) ≡ got tt k → (1 ≤ k) × (at + k ≤ length s)
-  clash-inside {k} l e = next-inside s at k (h .forest) l (h .reads) e
-
-  pub clash-found : {p : ℕ} → at < length s → nextNode (drop at s) ≡ fault p → ⊥
-  clash-found {p} l e = next-found s at p (h .forest) l (h .reads) e
 
   -- the forest with its first node
   first : (l : at < length s)
@@ -392,7 +381,7 @@ module _ {s : List ℕ} {at : ℕ} (h : ClashLeft s at) where
   pub clash-is : at < length s → clashAt s at ≡ true → variablesRefusal (queryNode s) ≡ refuse 7 at
   clash-is l t =
       let v = projectedIn (drop at s) in
-      let both = and-true (ltb v 16) (clashesWith s v) t in
+      let both = both-true (ltb v 16) (clashesWith s v) t in
       first l ∙ clash-here (queryNode s) at v (met l .node) (met l .behind) (projects l (ltb-true v 16 (both .0))) (both .1)
 
   behind : {k : ℕ} (l : at < length s) → nextNode (drop at s) ≡ got tt k
@@ -485,6 +474,6 @@ head-node p s e = go p (readNode s) e
   where
     go : (p : Read Head) (r : Read Node) → p ≡ mapRead nodeHead r → HeadOf p r
     go (got h n) (got x m) d = let k : n ≡ m = cc in (x, ap (got x) (sym k))
-    go (got h n) (fault q) d = absurd (let z : _≡_ {A = ℕ} 0 1 = cc in omega arith)
-    go (fault q) (got x m) d = absurd (let z : _≡_ {A = ℕ} 0 1 = cc in omega arith)
+    go (got h n) (fault q) d = absurd (fault-not-got (sym d))
+    go (fault q) (got x m) d = absurd (fault-not-got d)
     go (fault q) (fault k) d = let same : k ≡ q = cc in ap fault same

@@ -1,10 +1,10 @@
 -- By the variable that the node projects. Assumes nothing.
-use mathlib.Core.Path.{_≡_, sym, ap, _∙_}
+use mathlib.Core.Path.{_≡_, sym, _∙_}
 use native.Mathlib.Omega.{arith}
 use borrow.Author.Tests.{lt-ltb, le-ltb}
 use lib.ListN.{drop}
 use Rattle.query.specs.Variables.{projectedIn}
-use Rattle.query.proofs.ReadLaws.{part-drop}
+use Rattle.query.proofs.ReadLaws.{on-part}
 use borrow.Author.Needs.{needs}
 use Rattle.query.proofs.clash_at.Statement.{statement}
 use Rattle.query.proofs.clash_at.Tie as tie
@@ -29,7 +29,7 @@ returns c =
     let s = c .before .before .before .before .before .args .q .now in
     let at = c .before .before .before .before .before .args .at in
     let v = c .before .before .projected .result in
-    let is : v ≡ projectedIn (drop at s) = c .before .before .projected .ensures ∙ ap projectedIn (part-drop s at) in
+    let is : v ≡ projectedIn (drop at s) = sym (on-part projectedIn s at (c .before .before .projected .ensures)) in
     c .clashes .ensures ∙ sym (rw (← is, lt-ltb v 16 (omega arith)))
 
 returns-2 : tie.Need-returns-2
@@ -37,7 +37,7 @@ returns-2 c =
     let s = c .before .before .before .before .args .q .now in
     let at = c .before .before .before .before .args .at in
     let v = c .before .projected .result in
-    let is : v ≡ projectedIn (drop at s) = c .before .projected .ensures ∙ ap projectedIn (part-drop s at) in
+    let is : v ≡ projectedIn (drop at s) = sym (on-part projectedIn s at (c .before .projected .ensures)) in
     sym (rw (← is, le-ltb v 16 (omega arith)))
 
 pub clash-at-spec : {M : Type 1} → statement M

@@ -8,8 +8,8 @@ use Rattle.tsparql.specs.Reading.{got}
 use borrow.Author.Needs.{needs}
 use Rattle.query.specs.Answers.{placeFound}
 use Rattle.query.specs.Variables.{nodeOf, ownUses, nextNode}
-use Rattle.query.proofs.ReadLaws.{part-drop}
-use Rattle.query.proofs.Walk.{uses-start, uses-sound, uses-here, uses-found, uses-inside, uses-next, uses-end, ownUses-small}
+use Rattle.query.proofs.ReadLaws.{part-drop, on-part}
+use Rattle.query.proofs.Walk.{uses-start, uses-sound, uses-here, next-found, next-inside, uses-next, uses-end, ownUses-small}
 use Rattle.query.proofs.Walk.{UsesLeft}
 use Rattle.query.proofs.clashes.Statement.{statement}
 use Rattle.query.proofs.clashes.Tie as tie
@@ -45,7 +45,7 @@ own-is : (c : tie.After-own-uses Inv-loop μ-loop)
 own-is c =
     let turn = c .before .before .before in
     let start = turn .before .before in
-    c .own-uses .ensures ∙ ap (λ t. ownUses (start .args .v) (nodeOf t)) (part-drop (start .args .q .now) (turn .loop .at))
+    sym (on-part (λ t. ownUses (start .args .v) (nodeOf t)) (start .args .q .now) (turn .loop .at) (c .own-uses .ensures))
 
 add-seen : tie.Need-add-seen Inv-loop μ-loop
 add-seen c =
@@ -78,11 +78,10 @@ enum-told c = search needs
 returns-2 : tie.Need-returns-2 Inv-loop μ-loop
 returns-2 c =
     let turn = c .before .before .before .before .before .before .before .before in
-    let next =
-    ap nextNode (sym (part-drop (turn .before .before .args .q .now) (turn .loop .at)))
-    ∙ sym (c .before .before .next-node .ensures)
-    ∙ ap placeFound (c .enum-told .given .1) in
-    absurd (uses-found (turn .loop .inv) (omega arith) next)
+    let s = turn .before .before .args .q .now in
+    let left = turn .loop .inv in
+    let next = on-part nextNode s (turn .loop .at) (c .before .before .next-node .ensures) ∙ ap placeFound (c .enum-told .given .1) in
+    absurd (next-found s (turn .loop .at) _ (left .forest) (omega arith) (left .reads) next)
 
 -- in a turn: the next node
 next-is : (c : tie.After-known-told Inv-loop μ-loop)
@@ -90,15 +89,17 @@ next-is : (c : tie.After-known-told Inv-loop μ-loop)
     nextNode (drop (turn .loop .at) (turn .before .before .args .q .now)) ≡ got tt (c .before .n .given .0 .0)
 next-is c =
     let turn = c .before .before .before .before .before .before .before .before .before in
-    ap nextNode (sym (part-drop (turn .before .before .args .q .now) (turn .loop .at)))
-    ∙ sym (c .before .before .before .next-node .ensures)
+    on-part nextNode (turn .before .before .args .q .now) (turn .loop .at) (c .before .before .before .next-node .ensures)
     ∙ ap placeFound (c .before .n .given .1)
 
 inside : (c : tie.After-known-told Inv-loop μ-loop)
     → let turn = c .before .before .before .before .before .before .before .before .before in
     let next = c .before .n .given .0 .0 in
     (1 ≤ next) × (turn .loop .at + next ≤ length (turn .before .before .args .q .now))
-inside c = uses-inside (c .before .before .before .before .before .before .before .before .before .loop .inv) (omega arith) (next-is c)
+inside c =
+    let turn = c .before .before .before .before .before .before .before .before .before in
+    let left = turn .loop .inv in
+    next-inside (turn .before .before .args .q .now) (turn .loop .at) _ (left .forest) (omega arith) (left .reads) (next-is c)
 
 add-at : tie.Need-add-at Inv-loop μ-loop
 add-at c = omega (arith, inside c .0, inside c .1)

@@ -3,7 +3,7 @@ use mathlib.Core.Path.{_≡_, refl, sym, ap, _∙_}
 use native.Mathlib.Omega.{arith}
 use Rattle.tsparql.specs.Reading.{readPattern}
 use Rattle.query.specs.Answers.{patternFound}
-use Rattle.query.proofs.ReadLaws.{part-drop, placeOf}
+use Rattle.query.proofs.ReadLaws.{on-part, placeOf}
 use Rattle.query.proofs.PatternParts.{pattern-part}
 use borrow.Author.Needs.{needs}
 use Rattle.query.proofs.Walk.{have-none, have-fault, have-here, have-next, HaveLeft}
@@ -39,7 +39,7 @@ read-is : (c : tie.After-read-pattern Inv-loop μ-loop)
     readPattern (drop (turn .loop .p) (turn .before .before .args .q .now)) ≡ patternFound (c .read-pattern .result)
 read-is c =
     let turn = c .before .before .before in
-    ap readPattern (sym (part-drop (turn .before .before .args .q .now) (turn .loop .p))) ∙ sym (c .read-pattern .ensures)
+    on-part readPattern (turn .before .before .args .q .now) (turn .loop .p) (c .read-pattern .ensures)
 
 -- and the place behind it
 inside : (c : tie.After-read-pattern Inv-loop μ-loop)

@@ -6,7 +6,7 @@ use lib.ListN.{length, drop}
 use Rattle.tsparql.specs.Reading.{readPattern}
 use Rattle.query.specs.Answers.{patternFound}
 use Rattle.query.specs.Parts.{patternsFrom}
-use Rattle.query.proofs.ReadLaws.{part-drop, placeOf}
+use Rattle.query.proofs.ReadLaws.{on-part, placeOf}
 use Rattle.query.proofs.PatternParts.{patterns-none, patterns-next, patterns-fault, pattern-part}
 use borrow.Author.Needs.{needs}
 use Rattle.query.proofs.read_patterns.Statement.{statement}
@@ -39,7 +39,7 @@ read-is : (c : tie.After-read-pattern Inv-loop μ-loop)
     readPattern (drop (turn .loop .p) (turn .before .before .args .q .now)) ≡ patternFound (c .read-pattern .result)
 read-is c =
     let turn = c .before .before .before in
-    ap readPattern (sym (part-drop (turn .before .before .args .q .now) (turn .loop .p))) ∙ sym (c .read-pattern .ensures)
+    on-part readPattern (turn .before .before .args .q .now) (turn .loop .p) (c .read-pattern .ensures)
 
 -- and the place behind it
 inside : (c : tie.After-read-pattern Inv-loop μ-loop)
