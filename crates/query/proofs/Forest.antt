@@ -52,6 +52,15 @@ operandsAt (filter c x) m = 1 + conditionSize c
 operandsAt (projectTrust v x) m = 1
 operandsAt (ensureTrust l u x) m = 4
 
+pub operandsAt-positive : (x : Node) → 1 ≤ operandsAt x (nodeSize x)
+operandsAt-positive (patternSet ps) = nodeSize-positive (patternSet ps)
+operandsAt-positive (join x y) = omega arith
+operandsAt-positive (leftJoin c x y) = omega arith
+operandsAt-positive (union x y) = omega arith
+operandsAt-positive (filter c x) = omega arith
+operandsAt-positive (projectTrust v x) = omega arith
+operandsAt-positive (ensureTrust l u x) = omega arith
+
 -- a pattern set's patterns are read behind its head
 abbrev pub PatternsRead : List ℕ → ℕ → Node → Type 0
 PatternsRead s own (patternSet ps) = (m : ℕ) × (readPatterns (length ps) (drop own s) ≡ got ps m)

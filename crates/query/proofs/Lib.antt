@@ -5,4 +5,5 @@ pub mod PatternParts
 pub mod NodeParts
 pub mod Forest
 pub mod Uses
+pub mod Operands
 pub mod Walk

@@ -16,7 +16,7 @@ use Rattle.tsparql.specs.Reading.{Read, got, fault, andThen, slotOf, readPatter
 use Rattle.tsparql.specs.WellFormed.{NodeFormed}
 use Rattle.tsparql.specs.Check.{slotVariables, variablesOf, occurrences, refuse, noRefusal, clashes, firstClash, trustProjections}
 use Rattle.tsparql.specs.Check.{variablesRefusal, queryRefusal}
-use Rattle.tsparql.proofs.QuerySize.{nodeSize, nodeSize-positive}
+use Rattle.tsparql.proofs.QuerySize.{nodeSize}
 use Rattle.tsparql.proofs.WrittenRead.{ReadsNode, readNode-sound}
 use Rattle.query.specs.Answers.{nodeHead}
 use Rattle.query.specs.declared.Head.{Head}
@@ -29,7 +29,8 @@ use Rattle.query.specs.Parts.{mapRead, nodeHeadRead}
 use Rattle.query.specs.Variables.{has, IsGot, PatternsSound, patternsOf, NodeSound, nodeOf, ownUses, nextNode}
 use Rattle.query.specs.Variables.{headVariable, foundVariable, projectedIn, QuerySound, clashesWith, clashAt, clashIn, Checked}
 use Rattle.query.proofs.ReadLaws.{fault-not-got}
-use Rattle.query.proofs.Forest.{ReadsAll, operandsIn, operandsAt, PatternsRead, node-found, read-size, forest-step, forest-end}
+use Rattle.query.proofs.Forest.{ReadsAll, operandsIn, operandsAt, operandsAt-positive, PatternsRead}
+use Rattle.query.proofs.Forest.{node-found, read-size, forest-step, forest-end}
 use Rattle.query.proofs.Uses.{uses, forestUses, forestUses-step, occurrences-append, uses-clashes, forestProjections, ownProjection}
 use Rattle.query.proofs.Uses.{clash-pass, clash-free, clash-here}
 
@@ -122,15 +123,6 @@ module _ {v : ℕ} {s : List ℕ} {n at left p : ℕ} (h : HaveLeft v s n at lef
 readsAll-inside : (s : List ℕ) (at : ℕ) (xs : List Node) (end : ℕ) → ReadsAll s at xs end → at ≤ end
 readsAll-inside s at [] end h = omega (arith, h)
 readsAll-inside s at (x ∷ xs) end h = omega (arith, readsAll-inside s (at + h .0) xs end (h .2))
-
-operandsAt-positive : (x : Node) → 1 ≤ operandsAt x (nodeSize x)
-operandsAt-positive (patternSet ps) = nodeSize-positive (patternSet ps)
-operandsAt-positive (join x y) = omega arith
-operandsAt-positive (leftJoin c x y) = omega arith
-operandsAt-positive (union x y) = omega arith
-operandsAt-positive (filter c x) = omega arith
-operandsAt-positive (projectTrust v x) = omega arith
-operandsAt-positive (ensureTrust l u x) = omega arith
 
 -- before the end there is a node
 pub record NodeHere (s : List ℕ) (at : ℕ) (xs : List Node) : Type 0 where

@@ -127,6 +127,10 @@ beforeOperands s H.Filter at = conditionsFrom 1 at s
 beforeOperands s (H.ProjectTrust v) at = got tt at
 beforeOperands s (H.EnsureTrust l u) at = got tt at
 
+-- a node without its operands: the head, and the place behind its patterns or condition
+abbrev pub ownRead : List ℕ → Read Head
+ownRead s = follow (nodeHeadRead s) (λ h own. mapRead (λ _. h) (beforeOperands s h own))
+
 -- how many nodes are its operands
 abbrev pub nodeOperands : Head → ℕ
 nodeOperands (H.PatternSet n) = 0

@@ -7,7 +7,7 @@ ghost use Rattle.tsparql.specs.Reading.{bits24, termSound, slotSound, readPatte
 ghost use Rattle.query.specs.Answers.{patternFound, conditionFound, conditionHead, nodeFound, nodeHead, placeFound, faultIn};
 ghost use Rattle.query.specs.Parts.{secondOf, termOf, pairHead, termHead, connective, conditionHeadRead, conditionOperands};
 ghost use Rattle.query.specs.Parts.{mapRead, conditionsFrom, boundsHead, plainHead, nodeHeadRead, nodeOperands, patternsFrom};
-ghost use Rattle.query.specs.Parts.{beforeOperands, nodesFrom};
+ghost use Rattle.query.specs.Parts.{beforeOperands, ownRead, nodesFrom};
 ghost use Rattle.tsparql.specs.Reading.{slotOf, queryNode};
 ghost use Rattle.tsparql.specs.Check.{slotVariables, variablesOf, variablesRefusal};
 ghost use Rattle.query.specs.Answers.{patternIn};
@@ -247,7 +247,7 @@ fn condition_operands(h: ConditionHead) -> u8
 }
 
 // The place of a fault; 0 where there is none.
-fn condition_fault(r: ConditionRead) -> usize
+pub fn condition_fault(r: ConditionRead) -> usize
     ensures { λ p. ⌜ p ≡ faultIn (conditionFound r) ⌝ }
 {
     match r {
@@ -353,7 +353,7 @@ pub fn read_head(q: &[u8]) -> NodeRead
 }
 
 // How many nodes are the operands of a node.
-fn node_operands(h: Head) -> u8
+pub fn node_operands(h: Head) -> u8
     ensures { λ r. ⌜ r ≡ nodeOperands h ⌝ }
 {
     match h {
@@ -368,7 +368,7 @@ fn node_operands(h: Head) -> u8
 }
 
 // The place of a fault; 0 where there is none.
-fn node_fault(r: NodeRead) -> usize
+pub fn node_fault(r: NodeRead) -> usize
     ensures { λ p. ⌜ p ≡ faultIn (nodeFound r) ⌝ }
 {
     match r {
@@ -409,6 +409,21 @@ fn before_operands(q: &[u8], h: Head, own: usize) -> Place
         Head::ProjectTrust(_) => Place::At(own),
         Head::EnsureTrust(_, _) => Place::At(own),
     }
+}
+
+// The head of the node that a part starts with, and the place of its operands.
+pub fn read_own(q: &[u8]) -> NodeRead
+    ensures { λ r. ⌜ nodeFound r ≡ ownRead (now (q .entry)) ⌝ }
+{
+    let h = read_head(q);
+    let NodeRead::Node(head, own) = h else {
+        return h;
+    };
+    let b = before_operands(q, head, own);
+    let Place::At(at) = b else {
+        return NodeRead::Fault(place_fault(b));
+    };
+    NodeRead::Node(head, at)
 }
 
 // The node that a part starts with, and the place behind its last operand.

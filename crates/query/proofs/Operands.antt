@@ -1,0 +1,145 @@
+-- A node that was read, by its head and its operands: what a recursion on operands needs to know of them. Assumes nothing.
+use mathlib.Core.Path.{_≡_, refl, sym, ap, _∙_}
+use mathlib.Core.List.{List, [], _∷_}
+use Prim.Native.Nat.{ℕ, _+_, _≤_}
+use native.Mathlib.Omega.{arith}
+use lib.ListN.{length, drop}
+use Rattle.tsparql.specs.Query.{Node, patternSet, join, leftJoin, union, filter, projectTrust, ensureTrust}
+use Rattle.tsparql.specs.Reading.{Read, got, fault, readNode}
+use Rattle.tsparql.proofs.QuerySize.{nodeSize}
+use Rattle.query.specs.declared.Head.{Head}
+use Rattle.query.specs.Answers.{nodeHead}
+use Rattle.query.specs.Parts.{mapRead, ownRead, nodeOperands}
+use Rattle.query.specs.Variables.{NodeSound, nodeOf}
+use Rattle.query.proofs.ReadLaws.{placeOf, fault-not-got}
+use Rattle.query.proofs.NodeParts.{node-inside}
+use Rattle.query.proofs.Forest.{ReadsAll, operandsIn, operandsAt, operandsAt-positive, NodeFound, node-found, read-size}
+
+-- the head is the node's, and the place that of its operands
+pub record Own (s : List ℕ) (h : Head) (k : ℕ) : Type 0 where
+  pub head-is : nodeHead (nodeOf s) ≡ h
+  pub place-is : operandsAt (nodeOf s) (nodeSize (nodeOf s)) ≡ k
+  pub some : 1 ≤ k
+  pub size-inside : nodeSize (nodeOf s) ≤ length s
+  pub operands-are : ReadsAll s k (operandsIn (nodeOf s)) (nodeSize (nodeOf s))
+
+-- what was read is the node of the part
+pub found-is : (s : List ℕ) (x : Node) (n : ℕ) → readNode s ≡ got x n → (nodeOf s ≡ x) × (nodeSize (nodeOf s) ≡ n)
+found-is s x n e =
+    let is : nodeOf s ≡ x = rw e in
+    (is, ap nodeSize is ∙ sym (read-size s x n e))
+
+own-node : (s : List ℕ) (h : Head) (k : ℕ) (x : Node) (n : ℕ) → readNode s ≡ got x n → NodeFound s x n → ownRead s ≡ got h k
+    → (nodeHead x ≡ h) × (operandsAt x n ≡ k)
+own-node s h k x n d f e =
+    let here : ownRead s ≡ got (nodeHead x) (operandsAt x n) = rw (f .head-is, f .before-is) in
+    let is = sym here ∙ e in
+    (cc, cc)
+
+pub own-found : (s : List ℕ) (h : Head) (k : ℕ) → NodeSound s → ownRead s ≡ got h k → Own s h k
+own-found s h k sound e = go (readNode s) refl
+  where
+    go : (r : Read Node) → readNode s ≡ r → Own s h k
+    go (got x n) d =
+        let f = node-found s x n d in
+        let is = found-is s x n d in
+        let o = own-node s h k x n d f e in
+        let end : placeOf (readNode s) ≡ n = rw d in
+        let place : operandsAt (nodeOf s) (nodeSize (nodeOf s)) ≡ k = rw (is .1, is .0) (o .1) in
+        record {
+          head-is = ap nodeHead (is .0) ∙ o .0;
+          place-is = place;
+          some = omega (arith, place, operandsAt-positive (nodeOf s));
+          size-inside = omega (arith, is .1, end, node-inside s);
+          operands-are = rw (is .1, is .0, ← o .1) (f .operands-are);
+        }
+    go (fault p) d = absurd (rw d at sound)
+
+-- a part that starts with a node has a head
+pub own-sound : (s : List ℕ) (p : ℕ) → NodeSound s → ownRead s ≡ fault p → ⊥
+own-sound s p sound e = go (readNode s) refl
+  where
+    go : (r : Read Node) → readNode s ≡ r → ⊥
+    go (got x n) d =
+        let f = node-found s x n d in
+        let here : ownRead s ≡ got (nodeHead x) (operandsAt x n) = rw (f .head-is, f .before-is) in
+        fault-not-got (sym e ∙ here)
+    go (fault q) d = rw d at sound
+
+-- ---- one and two operands
+
+-- the operand stands behind the head, and is the last
+pub record OneOperand (s : List ℕ) (k : ℕ) : Type 0 where
+  pub sound : NodeSound (drop k s)
+  pub operand : operandsIn (nodeOf s) ≡ nodeOf (drop k s) ∷ []
+  pub size : nodeSize (nodeOf s) ≡ k + nodeSize (nodeOf (drop k s))
+
+-- the left operand stands behind the head, the right one behind the left, and is the last
+pub record TwoOperands (s : List ℕ) (k m : ℕ) : Type 0 where
+  pub left-size : nodeSize (nodeOf (drop k s)) ≡ m
+  pub left-sound : NodeSound (drop k s)
+  pub right-sound : NodeSound (drop (k + m) s)
+  pub operands : operandsIn (nodeOf s) ≡ nodeOf (drop k s) ∷ nodeOf (drop (k + m) s) ∷ []
+  pub size : nodeSize (nodeOf s) ≡ k + m + nodeSize (nodeOf (drop (k + m) s))
+
+none-in : (x : Node) → nodeOperands (nodeHead x) ≡ 0 → operandsIn x ≡ []
+none-in (patternSet ps) e = refl
+none-in (join x y) e = absurd (omega arith)
+none-in (leftJoin c x y) e = absurd (omega arith)
+none-in (union x y) e = absurd (omega arith)
+none-in (filter c x) e = absurd (omega arith)
+none-in (projectTrust v x) e = absurd (omega arith)
+none-in (ensureTrust l u x) e = absurd (omega arith)
+
+one-in : (x : Node) → nodeOperands (nodeHead x) ≡ 1 → (a : Node) × (operandsIn x ≡ a ∷ [])
+one-in (patternSet ps) e = absurd (omega arith)
+one-in (join x y) e = absurd (omega arith)
+one-in (leftJoin c x y) e = absurd (omega arith)
+one-in (union x y) e = absurd (omega arith)
+one-in (filter c x) e = (x, refl)
+one-in (projectTrust v x) e = (x, refl)
+one-in (ensureTrust l u x) e = (x, refl)
+
+two-in : (x : Node) → nodeOperands (nodeHead x) ≡ 2 → (a : Node) × (b : Node) × (operandsIn x ≡ a ∷ b ∷ [])
+two-in (patternSet ps) e = absurd (omega arith)
+two-in (join x y) e = (x, y, refl)
+two-in (leftJoin c x y) e = (x, y, refl)
+two-in (union x y) e = (x, y, refl)
+two-in (filter c x) e = absurd (omega arith)
+two-in (projectTrust v x) e = absurd (omega arith)
+two-in (ensureTrust l u x) e = absurd (omega arith)
+
+module _ {s : List ℕ} {h : Head} {k : ℕ} (o : Own s h k) where
+  head-operands : nodeOperands (nodeHead (nodeOf s)) ≡ nodeOperands h
+  head-operands = ap nodeOperands (o .head-is)
+
+  pub no-operand : nodeOperands h ≡ 0 → (operandsIn (nodeOf s) ≡ []) × (nodeSize (nodeOf s) ≡ k)
+  no-operand e =
+      let none = none-in (nodeOf s) (head-operands ∙ e) in
+      (none, sym (rw none at (o .operands-are)))
+
+  pub one-operand : nodeOperands h ≡ 1 → OneOperand s k
+  one-operand e =
+      let one = one-in (nodeOf s) (head-operands ∙ e) in
+      let r = rw (one .1) at (o .operands-are) in
+      let is = found-is (drop k s) (one .0) (r .0) (r .1) in
+      record {
+        sound = rw (r .1) tt;
+        operand = one .1 ∙ rw (is .0);
+        size = omega (arith, r .2, is .1);
+      }
+
+  pub two-operands : nodeOperands h ≡ 2 → TwoOperands s k (nodeSize (nodeOf (drop k s)))
+  two-operands e =
+      let two = two-in (nodeOf s) (head-operands ∙ e) in
+      let r = rw (two .2) at (o .operands-are) in
+      let left = found-is (drop k s) (two .0) (r .0) (r .1) in
+      let read : readNode (drop (k + nodeSize (nodeOf (drop k s))) s) ≡ got (two .1) (r .2 .0) = rw (left .1) (r .2 .1) in
+      let right = found-is (drop (k + nodeSize (nodeOf (drop k s))) s) (two .1) (r .2 .0) read in
+      record {
+        left-size = refl;
+        left-sound = rw (r .1) tt;
+        right-sound = rw read tt;
+        operands = cc (two .2, left .0, right .0);
+        size = omega (arith, r .2 .2, left .1, right .1);
+      }

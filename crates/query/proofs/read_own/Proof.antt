@@ -1,0 +1,79 @@
+-- By the head, and what stands before its operands. Assumes nothing.
+use mathlib.Core.Path.{_≡_, sym, ap, _∙_}
+use Rattle.tsparql.specs.Reading.{got, fault}
+use Rattle.query.specs.Answers.{nodeFound, placeFound, faultIn}
+use Rattle.query.specs.Parts.{nodeHeadRead, beforeOperands}
+use Rattle.query.proofs.NodeParts.{node-head-inside}
+use borrow.Author.Needs.{needs}
+use Rattle.query.proofs.read_own.Statement.{statement}
+use Rattle.query.proofs.read_own.Tie as tie
+
+read-head-requires : tie.Need-read-head-requires
+read-head-requires c κs = search needs
+
+enum-known-h : tie.Need-enum-known-h
+enum-known-h c = search needs
+
+enum-told : tie.Need-enum-told
+enum-told c = search needs
+
+returns : tie.Need-returns
+returns c =
+    let s = c .before .before .before .before .args .q .now in
+    let bad : nodeHeadRead s ≡ fault _ = sym (c .before .before .read-head .ensures) ∙ ap nodeFound (c .enum-told .given .1) in
+    c .before .before .read-head .ensures ∙ bad ∙ sym (rw bad)
+
+before-operands-requires : tie.Need-before-operands-requires
+before-operands-requires c κs =
+    let h =
+    node-head-inside (c .before .before .before .before .before .args .q .now)
+    (sym (c .before .before .before .read-head .ensures) ∙ ap nodeFound (c .before .h .given .1)) in
+    (h .0, h .1)
+
+enum-known-b : tie.Need-enum-known-b
+enum-known-b c = search needs
+
+enum-told-2 : tie.Need-enum-told-2
+enum-told-2 c = search needs
+
+place-fault-requires : tie.Need-place-fault-requires
+place-fault-requires c κs = search needs
+
+returns-2 : tie.Need-returns-2
+returns-2 c =
+    let s = c .before .before .before .before .before .before .before .before .before .args .q .now in
+    let found : nodeHeadRead s ≡ got _ _ =
+    sym (c .before .before .before .before .before .before .before .read-head .ensures)
+    ∙ ap nodeFound (c .before .before .before .before .before .h .given .1) in
+    let head = c .before .before .before .before .before .h .given .0 .0 in
+    let own = c .before .before .before .before .before .h .given .0 .1 .0 in
+    let told = ap placeFound (c .before .enum-told2 .given .1) in
+    let bad : beforeOperands s head own ≡ fault _ = sym (c .before .before .before .before-operands .ensures) ∙ told in
+    ap fault (c .place-fault .ensures ∙ ap faultIn told) ∙ sym (rw (found, bad))
+
+returns-3 : tie.Need-returns-3
+returns-3 c =
+    let s = c .before .before .before .before .before .before .before .before .before .args .q .now in
+    let head = c .before .before .before .before .before .h .given .0 .0 in
+    let own = c .before .before .before .before .before .h .given .0 .1 .0 in
+    let found : nodeHeadRead s ≡ got head own =
+    sym (c .before .before .before .before .before .before .before .read-head .ensures)
+    ∙ ap nodeFound (c .before .before .before .before .before .h .given .1) in
+    let at : beforeOperands s head own ≡ got tt _ =
+    sym (c .before .before .before .before-operands .ensures) ∙ ap placeFound (c .before .b .given .1) in
+    sym (rw (found, at))
+
+pub read-own-spec : {M : Type 1} → statement M
+read-own-spec =
+    tie.close
+    (tie.spec
+    read-head-requires
+    enum-known-h
+    enum-told
+    returns
+    before-operands-requires
+    enum-known-b
+    enum-told-2
+    place-fault-requires
+    returns-2
+    returns-3)
