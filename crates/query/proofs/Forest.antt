@@ -19,6 +19,7 @@ use Rattle.tsparql.proofs.WrittenRead.{ReadsCondition, readCondition-sound, Rea
 use Rattle.tsparql.proofs.WrittenRead.{readNode-sound, PatternsFormed, Reads, readPatterns-sound}
 use Rattle.tsparql.specs.Lists.{concatMap}
 use Rattle.tsparql.specs.Writing.{patternBytes}
+use Rattle.tsparql.specs.WellFormed.{NodeFormed}
 use Rattle.query.specs.declared.Head.{Head}
 use Rattle.query.specs.declared.Head.the-variants as H
 use Rattle.query.specs.Answers.{nodeHead}
@@ -32,6 +33,11 @@ use Rattle.query.proofs.NodeParts.{one-condition}
 abbrev pub ReadsAll : List ℕ → ℕ → List Node → ℕ → Type 0
 ReadsAll s at [] end = at ≡ end
 ReadsAll s at (x ∷ xs) end = (m : ℕ) × (readNode (drop at s) ≡ got x m) × ReadsAll s (at + m) xs end
+
+-- nodes that end somewhere begin before
+pub readsAll-inside : (s : List ℕ) (at : ℕ) (xs : List Node) (end : ℕ) → ReadsAll s at xs end → at ≤ end
+readsAll-inside s at [] end h = omega (arith, h)
+readsAll-inside s at (x ∷ xs) end h = omega (arith, readsAll-inside s (at + h .0) xs end (h .2))
 
 abbrev pub operandsIn : Node → List Node
 operandsIn (patternSet ps) = []
@@ -243,6 +249,14 @@ read-size s x n e = go (readNode s) e (readNode-sound s)
   where
     go : (r : Read Node) → r ≡ got x n → ReadsNode s r → n ≡ nodeSize x
     go (got y m) d h = let is : y ≡ x = cc in let k : m ≡ n = cc in sym k ∙ h .1 .size ∙ ap nodeSize is
+    go (fault p) d h = absurd (fault-not-got d)
+
+-- and its numbers are in range
+pub read-formed : (s : List ℕ) (x : Node) (n : ℕ) → readNode s ≡ got x n → NodeFormed x
+read-formed s x n e = go (readNode s) e (readNode-sound s)
+  where
+    go : (r : Read Node) → r ≡ got x n → ReadsNode s r → NodeFormed x
+    go (got y m) d h = let is : y ≡ x = cc in rw is at (h .0)
     go (fault p) d h = absurd (fault-not-got d)
 
 readsAll-shift : (s : List ℕ) (by at : ℕ) (xs : List Node) (end : ℕ) → ReadsAll (drop by s) at xs end → ReadsAll s (by + at) xs (by + end)

@@ -4,6 +4,7 @@ pub mod ConditionParts
 pub mod PatternParts
 pub mod NodeParts
 pub mod Forest
+pub mod WriterLaws
 pub mod Uses
 pub mod Operands
 pub mod Walk

@@ -1,25 +1,30 @@
 -- A node that was read, by its head and its operands: what a recursion on operands needs to know of them. Assumes nothing.
 use mathlib.Core.Path.{_≡_, refl, sym, ap, _∙_}
 use mathlib.Core.List.{List, [], _∷_}
-use Prim.Native.Nat.{ℕ, _+_, _≤_}
+use Prim.Native.Nat.{ℕ, zero, suc, _+_, _≤_}
 use native.Mathlib.Omega.{arith}
 use lib.ListN.{length, drop}
 use Rattle.tsparql.specs.Query.{Node, patternSet, join, leftJoin, union, filter, projectTrust, ensureTrust}
 use Rattle.tsparql.specs.Reading.{Read, got, fault, readNode}
+use Rattle.tsparql.specs.WellFormed.{NodeFormed}
 use Rattle.tsparql.proofs.QuerySize.{nodeSize}
 use Rattle.query.specs.declared.Head.{Head}
+use Rattle.query.specs.declared.Head.the-variants as H
 use Rattle.query.specs.Answers.{nodeHead}
 use Rattle.query.specs.Parts.{mapRead, ownRead, nodeOperands}
 use Rattle.query.specs.Variables.{NodeSound, nodeOf}
 use Rattle.query.proofs.ReadLaws.{placeOf, fault-not-got}
 use Rattle.query.proofs.NodeParts.{node-inside}
-use Rattle.query.proofs.Forest.{ReadsAll, operandsIn, operandsAt, operandsAt-positive, NodeFound, node-found, read-size}
+use Rattle.query.proofs.Forest.{ReadsAll, readsAll-inside, operandsIn, operandsAt, operandsAt-positive}
+use Rattle.query.proofs.Forest.{NodeFound, node-found, read-size, read-formed}
 
 -- the head is the node's, and the place that of its operands
 pub record Own (s : List ℕ) (h : Head) (k : ℕ) : Type 0 where
   pub head-is : nodeHead (nodeOf s) ≡ h
   pub place-is : operandsAt (nodeOf s) (nodeSize (nodeOf s)) ≡ k
+  pub formed : NodeFormed (nodeOf s)
   pub some : 1 ≤ k
+  pub inside : k ≤ length s
   pub size-inside : nodeSize (nodeOf s) ≤ length s
   pub operands-are : ReadsAll s k (operandsIn (nodeOf s)) (nodeSize (nodeOf s))
 
@@ -46,12 +51,21 @@ own-found s h k sound e = go (readNode s) refl
         let o = own-node s h k x n d f e in
         let end : placeOf (readNode s) ≡ n = rw d in
         let place : operandsAt (nodeOf s) (nodeSize (nodeOf s)) ≡ k = rw (is .1, is .0) (o .1) in
+        let operands : ReadsAll s k (operandsIn (nodeOf s)) (nodeSize (nodeOf s)) = rw (is .1, is .0, ← o .1) (f .operands-are) in
         record {
           head-is = ap nodeHead (is .0) ∙ o .0;
           place-is = place;
+          formed = rw (is .0) (read-formed s x n d);
           some = omega (arith, place, operandsAt-positive (nodeOf s));
+          inside = omega (
+            arith,
+            is .1,
+            end,
+            node-inside s,
+            readsAll-inside s k (operandsIn (nodeOf s)) (nodeSize (nodeOf s)) operands,
+          );
           size-inside = omega (arith, is .1, end, node-inside s);
-          operands-are = rw (is .1, is .0, ← o .1) (f .operands-are);
+          operands-are = operands;
         }
     go (fault p) d = absurd (rw d at sound)
 
@@ -67,6 +81,16 @@ own-sound s p sound e = go (readNode s) refl
     go (fault q) d = rw d at sound
 
 -- ---- one and two operands
+
+-- a node has two operands at most
+pub operands-few : (h : Head) → nodeOperands h ≤ 2
+operands-few (H.PatternSet n) = omega arith
+operands-few H.Join = omega arith
+operands-few H.LeftJoin = omega arith
+operands-few H.Union = omega arith
+operands-few H.Filter = omega arith
+operands-few (H.ProjectTrust v) = omega arith
+operands-few (H.EnsureTrust l u) = omega arith
 
 -- the operand stands behind the head, and is the last
 pub record OneOperand (s : List ℕ) (k : ℕ) : Type 0 where
@@ -143,3 +167,21 @@ module _ {s : List ℕ} {h : Head} {k : ℕ} (o : Own s h k) where
         operands = cc (two .2, left .0, right .0);
         size = omega (arith, r .2 .2, left .1, right .1);
       }
+
+  -- a head with an operand has a first one
+  pub first-sound : (nodeOperands h ≡ 0 → ⊥) → NodeSound (drop k s)
+  first-sound some = go (nodeOperands h) refl (operands-few h)
+    where
+      go : (n : ℕ) → nodeOperands h ≡ n → n ≤ 2 → NodeSound (drop k s)
+      go zero e l = absurd (some e)
+      go (suc zero) e l = one-operand e .sound
+      go (suc (suc n)) e l = two-operands (omega arith) .left-sound
+
+  -- and one that has neither none nor one has two
+  pub second-operand : (nodeOperands h ≡ 0 → ⊥) → (nodeOperands h ≡ 1 → ⊥) → TwoOperands s k (nodeSize (nodeOf (drop k s)))
+  second-operand some more = two-operands (exactly (nodeOperands h) some more (operands-few h))
+    where
+      exactly : (n : ℕ) → (n ≡ 0 → ⊥) → (n ≡ 1 → ⊥) → n ≤ 2 → n ≡ 2
+      exactly zero f g l = absurd (f refl)
+      exactly (suc zero) f g l = absurd (g refl)
+      exactly (suc (suc n)) f g l = omega arith

@@ -29,8 +29,8 @@ use Rattle.query.specs.Parts.{mapRead, nodeHeadRead}
 use Rattle.query.specs.Variables.{has, IsGot, PatternsSound, patternsOf, NodeSound, nodeOf, ownUses, nextNode}
 use Rattle.query.specs.Variables.{headVariable, foundVariable, projectedIn, QuerySound, clashesWith, clashAt, clashIn, Checked}
 use Rattle.query.proofs.ReadLaws.{fault-not-got}
-use Rattle.query.proofs.Forest.{ReadsAll, operandsIn, operandsAt, operandsAt-positive, PatternsRead}
-use Rattle.query.proofs.Forest.{node-found, read-size, forest-step, forest-end}
+use Rattle.query.proofs.Forest.{ReadsAll, readsAll-inside, operandsIn, operandsAt, operandsAt-positive, PatternsRead}
+use Rattle.query.proofs.Forest.{node-found, read-size, read-formed, forest-step, forest-end}
 use Rattle.query.proofs.Uses.{uses, forestUses, forestUses-step, occurrences-append, uses-clashes, forestProjections, ownProjection}
 use Rattle.query.proofs.Uses.{clash-pass, clash-free, clash-here}
 
@@ -118,11 +118,6 @@ module _ {v : ℕ} {s : List ℕ} {n at left p : ℕ} (h : HaveLeft v s n at lef
       }
 
 -- ---- the next node of a walk
-
--- nodes that end somewhere begin before
-readsAll-inside : (s : List ℕ) (at : ℕ) (xs : List Node) (end : ℕ) → ReadsAll s at xs end → at ≤ end
-readsAll-inside s at [] end h = omega (arith, h)
-readsAll-inside s at (x ∷ xs) end h = omega (arith, readsAll-inside s (at + h .0) xs end (h .2))
 
 -- before the end there is a node
 pub record NodeHere (s : List ℕ) (at : ℕ) (xs : List Node) : Type 0 where
@@ -342,13 +337,6 @@ own-one at (union x y) l = absurd (omega arith)
 own-one at (filter c x) l = absurd (omega arith)
 own-one at (projectTrust v x) l = refl
 own-one at (ensureTrust lower upper x) l = absurd (omega arith)
-
-read-formed : (s : List ℕ) (x : Node) (n : ℕ) → readNode s ≡ got x n → NodeFormed x
-read-formed s x n e = go (readNode s) e (readNode-sound s)
-  where
-    go : (r : Read Node) → r ≡ got x n → ReadsNode s r → NodeFormed x
-    go (got y m) d h = let is : y ≡ x = cc in rw is at (h .0)
-    go (fault p) d h = absurd (fault-not-got d)
 
 both-true : (a b : Bool) → a && b ≡ true → (a ≡ true) × (b ≡ true)
 both-true true b e = (refl, e)

@@ -1,9 +1,12 @@
 // The calls for C. Their names and layouts are in include/randwyler.h.
 ghost use mathlib.Core.Path.{_≡_};
 ghost use Rattle.tsparql.specs.Check.{check};
-ghost use Rattle.randwyler.specs.Answers.{refusalIn};
+ghost use Rattle.tsparql.specs.Rewrite as D;
+ghost use Rattle.randwyler.specs.Answers.{refusalIn, rewrittenIn};
 use query::QueryAnswer;
 use query::check_query;
+use rewriting::RewriteAnswer;
+use rewriting::rewrite;
 use table::TableAnswer;
 use table::check_table;
 
@@ -36,6 +39,33 @@ pub extern "C" fn randwyler_check(table: &[u8], query: &[u8]) -> Refusal
         QueryAnswer::Refused { number, place } => Refusal {
             number,
             place: place as u64,
+        },
+    }
+}
+
+// A refusal, or the length of the result at the front of the output; what does not apply is 0.
+#[repr(C)]
+pub struct Rewritten {
+    pub number: u32,
+    pub place: u64,
+    pub length: u64,
+}
+
+// The rewriting of a query into a lent output: refusals 5 to 7 and 9. Past the result, and on a refusal, the output is unchanged.
+#[no_mangle]
+pub extern "C" fn randwyler_rewrite(query: &[u8], output: &mut [u8]) -> Rewritten
+    ensures { λ r. ⌜ rewrittenIn r (now (output .exit)) ≡ D.rewrite (now (query .entry)) (now (output .entry)) ⌝ }
+{
+    match rewrite(query, output) {
+        RewriteAnswer::Written(length) => Rewritten {
+            number: 0,
+            place: 0,
+            length: length as u64,
+        },
+        RewriteAnswer::Refused { number, place } => Rewritten {
+            number,
+            place: place as u64,
+            length: 0,
         },
     }
 }

@@ -141,11 +141,11 @@ abbrev pub BoundFormed : TrustBound → Type 0
 BoundFormed noBound = Unit {0}
 BoundFormed (between l u) = (l ≤ 2000) × (u ≤ 2000)
 
-trustFloor-formed : (b : TrustBound) → BoundFormed b → BoundFormed (trustFloor b)
+pub trustFloor-formed : (b : TrustBound) → BoundFormed b → BoundFormed (trustFloor b)
 trustFloor-formed noBound h = tt
 trustFloor-formed (between l u) h = (h .0, le-refl 2000)
 
-meet-formed : (b : TrustBound) (m w : ℕ) → BoundFormed b → m ≤ 2000 → w ≤ 2000 → BoundFormed (meet b m w)
+pub meet-formed : (b : TrustBound) (m w : ℕ) → BoundFormed b → m ≤ 2000 → w ≤ 2000 → BoundFormed (meet b m w)
 meet-formed noBound m w h i j = (i, j)
 meet-formed (between l u) m w h i j = (omega arith, omega arith)
 

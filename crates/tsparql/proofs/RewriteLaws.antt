@@ -9,12 +9,12 @@ use borrow.Author.Tests.{ltb-false, eqb-true, eqb-false, eq-eqb, le-ltb}
 use lib.Dec.{ltb}
 use lib.ListN.{length, drop, length-append, length-drop}
 use lib.Seq.{take-append-seam}
-use Rattle.tsparql.specs.Check.{Passes, Refusal, refuseIf, passes, queryRefusal, evaluateLimit}
+use Rattle.tsparql.specs.Check.{Passes, Refusal, noRefusal, refuseIf, passes, tableRefusal, queryRefusal, check, evaluateLimit}
 use Rattle.tsparql.specs.Rewrite.{rewriteLimit, rewriting, Rewritten, rewriteRefusal, wroteInto, wroteNothing}
 use Rattle.tsparql.specs.Rewrite.{rewrite, Accepted, written}
 use Rattle.tsparql.proofs.RefusalLaws.{orElse-second, orElse-cases, orElse-passes, refuseIf-passes, refuseIf-cases}
 use Rattle.tsparql.proofs.QueryLaws.{query-checked, queryRefusal-cases, rewriting-size-≤}
-use Rattle.tsparql.proofs.QueryLaws.{rewriting-passes-again, rewriting-rewriting}
+use Rattle.tsparql.proofs.QueryLaws.{query-passes, rewriting-passes, rewriting-passes-again, rewriting-rewriting}
 
 module _ (s out : List ℕ) where
   -- what is shown of a result and of a refusal is shown of the call
@@ -51,6 +51,23 @@ module _ (s out : List ℕ) where
   pub accepted-written : Accepted s out → written s out ≡ rewriting s
   accepted-written a =
       rw (accepted-wrote a) (take-append-seam (rewriting s) (drop (length (rewriting s)) out))
+
+  -- it is at most 5 times as long as the query
+  pub accepted-size : Accepted s out → length (written s out) ≤ 5 * length s
+  accepted-size a = rw (accepted-written a) (rewriting-size-≤ s (accepted-passes a))
+
+  -- beside every table the check answers for it what it answers for the query
+  pub accepted-check : (t : List ℕ) → Accepted s out → check t (written s out) ≡ check t s
+  unfolding check
+  accepted-check t a =
+      let z = accepted-passes a in
+      rw (accepted-written a, rewriting-passes s z, query-passes s z)
+
+  -- and refuses neither where the table passes
+  pub accepted-sound : (t : List ℕ) → Accepted s out → Passes (tableRefusal t) → check t (written s out) ≡ noRefusal
+  unfolding check
+  accepted-sound t a h =
+      rw (accepted-written a, rewriting-passes s (accepted-passes a)) (orElse-second (tableRefusal t) noRefusal h)
 
   -- a query that passes is accepted by every output of 5 times its length
   pub passes-accepted : Passes (queryRefusal rewriteLimit s) → 5 * length s ≤ length out → Accepted s out

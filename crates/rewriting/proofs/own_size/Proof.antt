@@ -1,0 +1,31 @@
+-- By the tests. Assumes nothing.
+use mathlib.Core.Path.{sym, _∙_}
+use borrow.Author.Needs.{needs}
+use Rattle.rewriting.proofs.own_size.Statement.{statement}
+use Rattle.rewriting.proofs.own_size.Tie as tie
+use Rattle.rewriting.proofs.stays_put.Reads as stays-put-reads
+use Rattle.rewriting.proofs.wraps.Reads as wraps-reads
+
+stays-put-requires : tie.Need-stays-put-requires
+stays-put-requires c κs = search needs
+
+wraps-requires : tie.Need-wraps-requires
+wraps-requires c κs = search needs
+
+add-result : tie.Need-add-result
+add-result c = search needs
+
+returns : tie.Need-returns
+returns c =
+    rw (sym (c .before .before .before .stays-put .ensures) ∙ c .before .before .if1 .taken, sym (c .before .wraps .ensures) ∙ c .if2 .taken)
+
+returns-2 : tie.Need-returns-2
+returns-2 c =
+    rw (sym (c .before .before .before .stays-put .ensures) ∙ c .before .before .if1 .taken, sym (c .before .wraps .ensures) ∙ c .if2 .left)
+
+returns-3 : tie.Need-returns-3
+returns-3 c = search needs
+
+pub own-size-spec : {M : Type 1} → statement M
+own-size-spec =
+    tie.close (tie.spec stays-put-requires wraps-requires add-result returns returns-2 returns-3)

@@ -1,0 +1,3 @@
+-- What the rewriting's functions answer, in the definitions' terms.
+pub mod Bounds
+pub mod Answers
