@@ -1,5 +1,5 @@
-//! Tests `randwyler_rewrite` of the built archive: vectors, cases by hand, an independent push (push.rs), limits, the longest
-//! results, and the stack it needs. The last line is 'N passed, M failed'.
+//! Tests `randwyler_rewrite` of the built archive: vectors, cases by hand, an independent push (push.rs), limits, the
+//! longest results, and the stack it needs. The last line is 'N passed, M failed'.
 
 mod chains;
 mod fence;
@@ -105,33 +105,29 @@ fn vectors(report: &mut Report) {
     }
 }
 
-/// Queries and their rewritings, both written down by hand.
+/// Queries and their rewritings, both written down by hand. A is {?0 20 21}, B is {?0 10 ?1}.
 fn by_hand(report: &mut Report) {
-    const A: &str = "01 100000 000014 000015";
-    const B: &str = "01 100000 00000a 100001";
+    let bytes = |text: &str| {
+        let text = text.replace('A', "01 100000 000014 000015").replace('B', "01 100000 00000a 100001");
+        vectors::bytes(&text.replace(' ', ""))
+    };
     let mut outputs = Outputs::new(2);
     for (what, query, result) in [
-        ("a join, u = 1000", format!("60 5dc7d0 10 {A} {B}"), format!("10 60 5dc7d0 {A} 60 5dc7d0 {B}")),
-        ("a join, u = 500", format!("60 5dc5dc 10 {A} {B}"), format!("60 5dc5dc 10 60 5dc7d0 {A} 60 5dc7d0 {B}")),
-        ("a join under none", format!("10 {A} 60 5dc7d0 {B}"), format!("10 {A} 60 5dc7d0 {B}")),
-        ("a left join, u = 1000", format!("60 5dc7d0 20 70 {A} {B}"), format!("60 5dc7d0 20 70 60 5dc7d0 {A} {B}")),
-        ("a left join, u = 999", format!("60 0007cf 20 00 {A} {B}"), format!("60 0007cf 20 00 60 0007d0 {A} {B}")),
-        (
-            "a bound in the right of a left join",
-            format!("60 5dc7d0 20 70 00 60 0017d0 00"),
-            format!("60 5dc7d0 20 70 60 5dc7d0 00 60 0017d0 00"),
-        ),
-        ("-1000 to 1000", format!("60 0007d0 {A}"), format!("60 0007d0 {A}")),
-        ("-1000 to 1000 of a join", format!("60 0007d0 10 {A} {B}"), format!("10 60 0007d0 {A} 60 0007d0 {B}")),
-        ("three bounds", "60 1005dc 60 2007cf 60 0005dd 00".to_string(), "60 2005dc 00".to_string()),
-        ("l above u", "60 7d0000 30 00 60 0007d0 00".to_string(), "30 60 7d0000 00 60 7d0000 00".to_string()),
-        (
-            "filter and project trust",
-            "60 5dc7cf 40 50 0f 1102 53 00".to_string(),
-            "40 50 0f 1102 53 60 5dc7cf 00".to_string(),
-        ),
+        ("a join, u = 1000", "60 5dc7d0 10 A B", "10 60 5dc7d0 A 60 5dc7d0 B"),
+        ("a join, u = 500", "60 5dc5dc 10 A B", "60 5dc5dc 10 60 5dc7d0 A 60 5dc7d0 B"),
+        ("a join under none", "10 A 60 5dc7d0 B", "10 A 60 5dc7d0 B"),
+        ("a left join, u = 1000", "60 5dc7d0 20 70 A B", "60 5dc7d0 20 70 60 5dc7d0 A B"),
+        ("a left join, u = 999", "60 0007cf 20 00 A B", "60 0007cf 20 00 60 0007d0 A B"),
+        ("a bound in a left join's right", "60 5dc7d0 20 70 A 60 0017d0 B", "60 5dc7d0 20 70 60 5dc7d0 A 60 0017d0 B"),
+        ("a bound in a join's right", "60 5dc7cf 10 A 60 6005dc B", "60 5dc7cf 10 60 5dc7d0 A 60 6005dc B"),
+        ("a join in a join", "60 5dc7cf 10 10 A B 00", "60 5dc7cf 10 10 60 5dc7d0 A 60 5dc7d0 B 60 5dc7d0 00"),
+        ("-1000 to 1000", "60 0007d0 A", "60 0007d0 A"),
+        ("-1000 to 1000 of a join", "60 0007d0 10 A B", "10 60 0007d0 A 60 0007d0 B"),
+        ("three bounds", "60 1005dc 60 2007cf 60 0005dd 00", "60 2005dc 00"),
+        ("l above u", "60 7d0000 30 00 60 0007d0 00", "30 60 7d0000 00 60 7d0000 00"),
+        ("filter and project trust", "60 5dc7cf 40 50 0f 1102 53 00", "40 50 0f 1102 53 60 5dc7cf 00"),
     ] {
-        let [query, result] = [query, result].map(|text| vectors::bytes(&text.replace(' ', "")));
+        let (query, result) = (bytes(query), bytes(result));
         report.case(pushed(&query).as_ref() == Ok(&result), || format!("{what}: push.rs differs"));
         outputs.test_rooms(report, what, &query, &Ok(result));
     }
