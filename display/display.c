@@ -1,8 +1,10 @@
 /* The display of a trend store: says whether a facts file and a query file are sound, and if not, what is refused and where.
+ * A sound query is shown as a tree, and beside it its rewriting, with the trust bounds pushed down.
  *
  *     display FACTS QUERY
  *
- * Exit status: 0 both are sound; 1 one is refused; 2 a file cannot be read, or the usage is wrong.
+ * Exit status: 0 both are sound, also where the query is too long to be rewritten; 1 one is refused; 2 a file cannot be read,
+ * or the usage is wrong.
  */
 #include <errno.h>
 #include <inttypes.h>
@@ -11,8 +13,10 @@
 #include <string.h>
 
 #include "randwyler.h"
+#include "tree.h"
 
-enum { SOUND = 0, REFUSED = 1, UNREADABLE = 2, RECORD_BYTES = 9 };
+/* An output of MOST_RESULT bytes holds every rewriting. */
+enum { SOUND = 0, REFUSED = 1, UNREADABLE = 2, RECORD_BYTES = 9, MOST_RESULT = 5120 };
 
 /* The bytes of a file; `bytes` is NULL or from malloc. */
 struct content {
@@ -37,6 +41,7 @@ static struct meaning meaning_of(uint32_t number)
     case 5: return (struct meaning){"query", "byte", "too long"};
     case 6: return (struct meaning){"query", "byte", "not well-formed here"};
     case 7: return (struct meaning){"query", "byte", "the variable of this project trust is used elsewhere too"};
+    case 9: return (struct meaning){"output", "length", "the rewriting is that long"};
     default: return (struct meaning){"input", "place", "unknown refusal"};
     }
 }
@@ -71,18 +76,38 @@ static int read_file(const char *path, struct content *content)
     return error != 0;
 }
 
+static void print_refusal(const char *what, uint32_t number, uint64_t place)
+{
+    struct meaning meaning = meaning_of(number);
+    printf("%s refused: number %" PRIu32 " at %s %" PRIu64 ": %s\n", what, number, meaning.unit, place, meaning.reason);
+}
+
+/* Prints a sound query and its rewriting. */
+static void show_trees(struct content query)
+{
+    uint8_t output[MOST_RESULT];
+    struct randwyler_rewritten rewritten = randwyler_rewrite(query.bytes, query.length, output, sizeof output);
+    printf("query, %zu bytes:\n", query.length);
+    print_tree(query.bytes, query.length);
+    if (rewritten.number != 0) {
+        print_refusal("rewriting", rewritten.number, rewritten.place);
+        return;
+    }
+    printf("rewriting, %" PRIu64 " bytes:\n", rewritten.length);
+    print_tree(output, (size_t)rewritten.length);
+}
+
 /* Checks both inputs and prints the outcome. */
 static int show(struct content facts, struct content query)
 {
     struct randwyler_refusal refusal = randwyler_check(facts.bytes, facts.length, query.bytes, query.length);
     if (refusal.number != 0) {
-        struct meaning meaning = meaning_of(refusal.number);
-        printf("%s refused: number %" PRIu32 " at %s %" PRIu64 ": %s\n", meaning.input, refusal.number, meaning.unit,
-               refusal.place, meaning.reason);
+        print_refusal(meaning_of(refusal.number).input, refusal.number, refusal.place);
         return REFUSED;
     }
     printf("sound: facts of %zu records in %zu bytes, query of %zu bytes\n", facts.length / RECORD_BYTES, facts.length,
            query.length);
+    show_trees(query);
     return SOUND;
 }
 

@@ -33,6 +33,7 @@ extern "C" {
  *                                                                               byte behind the node
  *   7       the variable of a project trust is used by a pattern or by a        the byte of the first project trust
  *           second project trust, anywhere in the query                         whose variable is used so
+ *   9       the output is shorter than the result                               the length needed
  *
  * If several apply, the table's come before the query's, and a lower number before a higher one. But the table's records
  * are tested one after the other: a 4 of one record comes before a 3 of a later record.
@@ -42,12 +43,27 @@ struct randwyler_refusal {
     uint64_t place;
 };
 
-/* KiB of stack that do for every query, however deep; tests/archive/run measures what is needed and holds it to this. */
+/* KiB of stack that do for every query that a call accepts, however deep; tests/archive/run measures what is needed and
+ * holds it to these. */
 #define RANDWYLER_STACK_CHECK_KIB 1280
+#define RANDWYLER_STACK_REWRITE_KIB 1280
 
 /* Tests a table, and a query of at most 5,120 bytes. Two read-only slices are lent: no byte of them, and no other memory,
  * is written. */
 struct randwyler_refusal randwyler_check(const uint8_t *table, size_t table_len, const uint8_t *query, size_t query_len);
+
+/* Why a rewriting is refused, and where, as in struct randwyler_refusal; and the length of the result, 0 on a refusal. */
+struct randwyler_rewritten {
+    uint32_t number;
+    uint64_t place;
+    uint64_t length;
+};
+
+/* Writes a query that lists the same rows in the same order to the front of the output, with every trust bound pushed down
+ * as far as it goes. Takes a query of at most 1,024 bytes; the refusals are 5, 6, 7 and 9. The result is at most 5 times as
+ * long as the query: an output of 5,120 bytes always does. The query is not written, nor are the output's bytes behind the
+ * result; on a refusal none is. */
+struct randwyler_rewritten randwyler_rewrite(const uint8_t *query, size_t query_len, uint8_t *output, size_t output_len);
 
 #ifdef __cplusplus
 }

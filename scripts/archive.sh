@@ -42,3 +42,8 @@ compile_c() {
     mkdir -p "$(dirname "$1")"
     gcc -std=c11 -Wall -Wextra -Wconversion -Werror -O2 -Iinclude "${@:2}" "$archive" -o "$1"
 }
+
+# compile_display OUTPUT: the C display.
+compile_display() {
+    compile_c "$1" display/display.c display/tree.c
+}

@@ -1,11 +1,10 @@
 /* Times randwyler_check beside a plain C loop with the same tests of a table, on a sound table of 65,535 records.
  * The query is one byte, so that the table is all that counts. Rounds alternate; the best round of each stands.
  */
-#define _POSIX_C_SOURCE 199309L
 #include <stdio.h>
 #include <stdlib.h>
-#include <time.h>
 
+#include "../clock.h"
 #include "table.h"
 
 enum { RECORDS = 65535, BYTES = 9 * RECORDS, ROUNDS = 200, CALLS = 4 };
@@ -43,17 +42,15 @@ typedef struct randwyler_refusal (*checker)(const uint8_t *table, size_t length)
 /* Nanoseconds a record of one round. */
 static double round_of(checker check, const uint8_t *table)
 {
-    struct timespec start, end;
     uint32_t refusals = 0;
-    clock_gettime(CLOCK_MONOTONIC, &start);
+    double start = clock_now();
     for (int i = 0; i < CALLS; i++) refusals |= check(table, BYTES).number;
-    clock_gettime(CLOCK_MONOTONIC, &end);
+    double end = clock_now();
     if (refusals != 0) {
         fputs("check: a sound table was refused\n", stderr);
         exit(1);
     }
-    double nanoseconds = 1e9 * (double)(end.tv_sec - start.tv_sec) + (double)(end.tv_nsec - start.tv_nsec);
-    return nanoseconds / CALLS / RECORDS;
+    return (end - start) / CALLS / RECORDS;
 }
 
 /* Both have to refuse a table whose last record is not above the one before it. */

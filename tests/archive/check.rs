@@ -2,42 +2,35 @@
 //! The last line is 'N passed, M failed'.
 
 mod chains;
+mod fence;
 mod ffi;
+mod limits;
 mod paper;
 mod queries;
 mod random;
 mod report;
+mod stack;
 mod tables;
+mod threads;
 mod vectors;
 
+use fence::Fenced;
+use limits::AtLimit;
 use paper::{refusal, Refusal, CHECK_LIMIT, MOST_RECORDS, NONE};
 use queries::{Nested, Query, CONDITION, KINDS};
 use random::Random;
 use report::Report;
-use std::sync::Barrier;
-use std::thread;
+use stack::Deepest;
 
 const RANDOM_CASES: usize = 300_000;
 const CUT_QUERIES: usize = 1_000;
-const THREADS: usize = 4;
-const CASES_A_THREAD: usize = 2_000;
-const CALLS_A_CASE: usize = 20;
-/// Stack for this program itself: paper.rs and queries.rs call themselves once for each level of a query.
-const OWN_STACK: usize = 256 << 20;
 
 /// Calls with copies of both inputs that stand between random bytes at random alignments. The case fails if the answer is
 /// not the expected one, or if a byte of the copies or about them has changed.
 fn fenced(report: &mut Report, random: &mut Random, what: &str, table: &[u8], query: &[u8], expected: Refusal) {
-    let mut fence = |bytes: &[u8]| {
-        let front = random.within(1, 16);
-        let back = random.within(1, 16);
-        (front..front + bytes.len(), [&random.bytes(front), bytes, &random.bytes(back)].concat())
-    };
-    let ((t, around_table), (q, around_query)) = (fence(table), fence(query));
-    let before = (around_table.clone(), around_query.clone());
-    let got = ffi::check(&around_table[t], &around_query[q]);
-    let unchanged = before.0 == around_table && before.1 == around_query;
-    if unchanged {
+    let (around_table, around_query) = (Fenced::new(random, table), Fenced::new(random, query));
+    let got = ffi::check(around_table.bytes(), around_query.bytes());
+    if around_table.holds(&[]) && around_query.holds(&[]) {
         report.check(what, table, query, expected, got);
     } else {
         report.case(false, || format!("{what}: an input was changed"));
@@ -79,18 +72,8 @@ fn random_inputs(random: &mut Random, nested: &mut Nested) -> (Vec<u8>, Vec<u8>)
     while random.once_in(5) {
         tables::damage_table(random, &mut table);
     }
-    if random.once_in(20) {
-        return (table, queries::heap_of_heads(random));
-    }
-    let size = queries::query_size(random);
-    let Query { mut bytes, pieces, .. } = Query::new(random, nested, size);
-    if random.once_in(2) {
-        queries::damage_query(random, &mut bytes, &pieces);
-        while random.once_in(5) {
-            random.damage(&mut bytes);
-        }
-    }
-    (table, bytes)
+    let damaged = random.once_in(2);
+    (table, queries::random_query(random, nested, CHECK_LIMIT, damaged))
 }
 
 fn random_cases(report: &mut Report, nested: &mut Nested) {
@@ -178,29 +161,12 @@ fn table_limits(report: &mut Report) {
     test("65,535 records and 8 bytes", &[&table[..], &[0; 8]].concat(), &[], refusal(1, 0));
 }
 
-/// Queries of 5,119, 5,120 and 5,121 bytes: sound, with a fault at the end, and with a clash.
 fn query_limits(report: &mut Report) {
     let mut random = Random::new(4);
-    for length in [CHECK_LIMIT - 1, CHECK_LIMIT, CHECK_LIMIT + 1] {
-        // Unions with the empty set; the first head is a project trust where the length is even.
-        let mut sound = vec![0x53; 1 - length % 2];
-        sound.extend([0x30, 0x00].repeat((length - 1) / 2));
-        sound.push(0x00);
-        let mut faulty = sound.clone();
-        faulty[length - 1] = 0x70;
-        let mut clash = sound.clone();
-        clash[length - 3..].copy_from_slice(&[0x54, 0x54, 0x00]);
-        for (what, query, within) in
-            [("sound", sound, NONE), ("fault", faulty, refusal(6, length - 1)), ("clash", clash, refusal(7, length - 3))]
-        {
-            let expected = if length <= CHECK_LIMIT { within } else { refusal(5, 0) };
-            let what = format!("{length} bytes, {what}");
-            report.case(query.len() == length && paper::check(&[], &query) == expected, || {
-                format!("{what}: paper.rs differs")
-            });
-            fenced(report, &mut random, &what, &[], &query, expected);
-            fenced(report, &mut random, &what, &[0; 9], &query, refusal(3, 0));
-        }
+    for AtLimit { what, query, refusal: expected } in limits::about(CHECK_LIMIT) {
+        report.case(paper::check(&[], &query) == expected, || format!("{what}: paper.rs differs"));
+        fenced(report, &mut random, &what, &[], &query, expected);
+        fenced(report, &mut random, &what, &[0; 9], &query, refusal(3, 0));
     }
 }
 
@@ -220,58 +186,22 @@ fn null_pointers(report: &mut Report) {
     }
 }
 
-/// Calls on several threads at once answer as calls on one. Every thread makes its inputs first, then all call together.
 fn on_threads(report: &mut Report) {
-    let start = Barrier::new(THREADS);
-    let run = |seed| {
-        let (mut random, mut nested) = (Random::new(seed), [[0; KINDS]; KINDS]);
-        let mut make = || {
-            let (table, query) = random_inputs(&mut random, &mut nested);
-            let expected = paper::check(&table, &query);
-            (table, query, expected)
-        };
-        let cases: Vec<_> = (0..CASES_A_THREAD).map(|_| make()).collect();
-        let mut good = vec![true; CASES_A_THREAD];
-        start.wait();
-        for _ in 0..CALLS_A_CASE {
-            for (good, (table, query, expected)) in good.iter_mut().zip(&cases) {
-                *good &= ffi::check(table, query) == *expected;
-            }
-        }
-        good
+    let make = |random: &mut Random| {
+        let (table, query) = random_inputs(random, &mut [[0; KINDS]; KINDS]);
+        let expected = paper::check(&table, &query);
+        (table, query, expected)
     };
-    thread::scope(|scope| {
-        let spawn = |seed| thread::Builder::new().stack_size(OWN_STACK).spawn_scoped(scope, move || run(seed));
-        let threads: Vec<_> = (0..THREADS).map(|i| spawn(5 + i as u64).expect("a thread")).collect();
-        for (number, thread) in threads.into_iter().enumerate() {
-            for good in thread.join().expect("answers") {
-                report.case(good, || format!("a call on thread {number} of {THREADS}"));
-            }
-        }
-    });
+    threads::all_right(report, make, |(table, query, expected)| ffi::check(table, query) == *expected);
 }
 
-/// The deepest queries on 8 MiB of stack, and the least stack that does.
-fn deepest(report: &mut Report) {
-    if chains::overflows(chains::MOST_STACK) {
-        println!("least stack: above {} KiB", chains::MOST_STACK);
-        return report.case(false, || format!("the deepest query overflows a stack of {} KiB", chains::MOST_STACK));
+fn deepest() -> Deepest<Refusal> {
+    Deepest {
+        figure: "RANDWYLER_STACK_CHECK_KIB",
+        chains: chains::all(&[], CHECK_LIMIT),
+        call: |query| ffi::check(&[], query),
+        expected: |query| paper::check(&[], query),
     }
-    let chains = chains::all();
-    for (chain, got) in chains.iter().zip(chains::answers(&chains, chains::MOST_STACK)) {
-        report.case(paper::check(&[], &chain.query) == chain.expected, || format!("{}: paper.rs differs", chain.name));
-        report.check(chain.name, &[], &chain.query, chain.expected, got);
-    }
-    let Some(least) = chains::least_stack() else {
-        println!("least stack: not measured, since an answer is wrong");
-        return report.case(false, || "the least stack cannot be measured".to_string());
-    };
-    println!("least stack: {least} KiB");
-    report.case(least <= chains::MOST_STACK, || format!("the deepest query needs {least} KiB of stack"));
-    let header = include_str!("../../include/randwyler.h");
-    let figure = header.lines().find_map(|line| line.strip_prefix("#define RANDWYLER_STACK_CHECK_KIB "));
-    let promised: usize = figure.and_then(|text| text.trim().parse().ok()).expect("the header's figure for the stack");
-    report.case(least <= promised, || format!("the header says that {promised} KiB of stack do, but {least} are needed"));
 }
 
 fn run() -> i32 {
@@ -292,17 +222,11 @@ fn run() -> i32 {
     report.part("random cases");
     on_threads(&mut report);
     report.part("threads");
-    deepest(&mut report);
+    deepest().test(&mut report);
     report.part("deepest queries");
     report.finish()
 }
 
 fn main() {
-    let arguments: Vec<String> = std::env::args().skip(1).collect();
-    let status = match &arguments[..] {
-        [] => thread::Builder::new().stack_size(OWN_STACK).spawn(run).expect("a thread").join().unwrap_or(101),
-        [option, kib] if option == "--stack" => chains::child(kib.parse().expect("a number of KiB")),
-        _ => panic!("usage: check [--stack KIB]"),
-    };
-    std::process::exit(status);
+    stack::main(run, deepest);
 }

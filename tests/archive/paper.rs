@@ -3,7 +3,7 @@
 //! Written from the document and made for reading, with no code in common with the engine: a table becomes a list
 //! of records, a query becomes a tree whose nodes know their places, and the refusals are asked of these.
 
-/// A number from 1 to 7 with its place, or 0 and 0.
+/// A number from 1 to 9 with its place, or 0 and 0.
 #[derive(Clone, Copy, Debug, PartialEq, Eq)]
 pub struct Refusal {
     pub number: u32,
@@ -11,6 +11,13 @@ pub struct Refusal {
 }
 
 pub const NONE: Refusal = Refusal { number: 0, place: 0 };
+
+/// The answer of a rewriting: the length is 0 on a refusal.
+#[derive(Clone, Copy, Debug, PartialEq, Eq)]
+pub struct Rewritten {
+    pub refusal: Refusal,
+    pub length: u64,
+}
 
 pub fn refusal(number: u32, place: usize) -> Refusal {
     Refusal { number, place: place as u64 }

@@ -9,8 +9,8 @@ pub const KINDS: usize = 15;
 /// With so many bytes left a node or condition has operands, so that long queries come about.
 const LARGE: usize = 150;
 
-/// Queries of so many bytes are made as long as asked.
-const NEAR_LIMIT: usize = 5_100;
+/// Queries so near below a limit, or longer ones, are made as long as asked.
+const NEAR: usize = 20;
 
 /// How often a kind stood directly in another.
 pub type Nested = [[u64; KINDS]; KINDS];
@@ -37,9 +37,6 @@ impl<'a> Query<'a> {
         let clashes = random.once_in(3);
         let mut query = Query { random, bytes: vec![], pieces: vec![], nested, in_patterns, to_project, clashes };
         query.node(None, budget);
-        if budget >= NEAR_LIMIT {
-            query.lengthen(budget);
-        }
         query
     }
 
@@ -124,13 +121,20 @@ impl<'a> Query<'a> {
                 self.node(Some(kind), left);
             }
             _ => {
-                let [low, high] = [0; 2].map(|_| match self.random.below(3) {
-                    0 => self.random.pick(&[0, 1, 1000, 1999, 2000]),
-                    _ => self.random.within(0, 2000),
-                });
+                // The least and the greatest are likely: what a push does depends on them.
+                let low = self.bound(&[0, 0, 0, 1, 1000, 1999, 2000]);
+                let high = self.bound(&[2000, 2000, 2000, 1999, 1999, 1000, 1, 0]);
                 self.piece(&[0x60, (low >> 4) as u8, (low << 4 | high >> 8) as u8, high as u8]);
                 self.node(Some(kind), budget.saturating_sub(4));
             }
+        }
+    }
+
+    fn bound(&mut self, likely: &[usize]) -> usize {
+        if self.random.once_in(2) {
+            self.random.pick(likely)
+        } else {
+            self.random.within(0, 2000)
         }
     }
 
@@ -176,19 +180,39 @@ impl<'a> Query<'a> {
     }
 }
 
-/// Bytes for a query: short, middling, long, and near the limit of the check.
-pub fn query_size(random: &mut Random) -> usize {
+/// Bytes for a query: short, middling, long, and near the limit of a call.
+fn query_size(random: &mut Random, limit: usize) -> usize {
     match random.below(400) {
-        0 => random.within(NEAR_LIMIT, 5_140),
-        1..=3 => random.within(1_000, 5_000),
+        0 => random.within(limit - NEAR, limit + NEAR),
+        1..=3 => random.within(limit / 5, limit),
         4..=40 => random.within(150, 600),
         41..=200 => random.within(30, 150),
         _ => random.within(0, 30),
     }
 }
 
+/// A random query for a call with a limit, well-formed or damaged.
+pub fn random_query(random: &mut Random, nested: &mut Nested, limit: usize, damaged: bool) -> Vec<u8> {
+    if damaged && random.once_in(10) {
+        return heap_of_heads(random);
+    }
+    let size = query_size(random, limit);
+    let mut query = Query::new(random, nested, size);
+    if size >= limit - NEAR {
+        query.lengthen(size);
+    }
+    let Query { mut bytes, pieces, .. } = query;
+    if damaged {
+        damage_query(random, &mut bytes, &pieces);
+        while random.once_in(5) {
+            random.damage(&mut bytes);
+        }
+    }
+    bytes
+}
+
 /// Damages a well-formed query in one way; the result may still be well-formed.
-pub fn damage_query(random: &mut Random, bytes: &mut Vec<u8>, pieces: &[(usize, usize)]) {
+fn damage_query(random: &mut Random, bytes: &mut Vec<u8>, pieces: &[(usize, usize)]) {
     let (start, length) = random.pick(pieces);
     match (random.below(6), length) {
         // The kind, or n, of a head.
@@ -211,7 +235,7 @@ pub fn damage_query(random: &mut Random, bytes: &mut Vec<u8>, pieces: &[(usize, 
 }
 
 /// Bytes that often stand in queries, in any order.
-pub fn heap_of_heads(random: &mut Random) -> Vec<u8> {
+fn heap_of_heads(random: &mut Random) -> Vec<u8> {
     const HEADS: [u8; 18] =
         [0x00, 0x00, 0x00, 0x01, 0x02, 0x0F, 0x10, 0x1F, 0x20, 0x2E, 0x30, 0x40, 0x50, 0x51, 0x5F, 0x60, 0x70, 0x80];
     let length = random.within(0, 40);

@@ -1,6 +1,6 @@
 //! Counts cases, and shows those that fail.
 
-use crate::paper::Refusal;
+use crate::paper::{Refusal, Rewritten};
 
 /// Failures that are shown in full; later ones are only counted.
 const SHOWN: u64 = 20;
@@ -33,6 +33,14 @@ impl Report {
         });
     }
 
+    /// Counts a case of the rewriting, into an output of `room` bytes.
+    pub fn rewrite(&mut self, what: &str, query: &[u8], room: usize, expected: Rewritten, got: Rewritten) {
+        self.case(expected == got, || {
+            let answer = |Rewritten { refusal, length }| format!("{} {} {length}", refusal.number, refusal.place);
+            format!("{what}: rewrite {} {room} => {}, but got {}", hex(query), answer(expected), answer(got))
+        });
+    }
+
     /// Says what a part of the test found.
     pub fn part(&self, name: &str) {
         println!("{name}: {} passed and {} failed so far", self.passed, self.failed);
@@ -46,7 +54,7 @@ impl Report {
 }
 
 /// Bytes as in the vectors; of long ones only the front and the length.
-fn hex(bytes: &[u8]) -> String {
+pub fn hex(bytes: &[u8]) -> String {
     const MOST: usize = 600;
     if bytes.is_empty() {
         return "-".to_string();

@@ -1,0 +1,113 @@
+#include "tree.h"
+
+#include <inttypes.h>
+#include <stdio.h>
+
+/* A bound in the bytes is plus so many thousandths. */
+enum { TRUST_ZERO = 1000 };
+
+/* What is left of a query. */
+struct rest {
+    const uint8_t *bytes;
+    size_t length;
+};
+
+/* The next bytes, at most 4, as a number. */
+static uint32_t take(struct rest *rest, int count)
+{
+    uint32_t number = 0;
+    for (int i = 0; i < count; i++) {
+        number <<= 8;
+        if (rest->length == 0) continue;
+        number |= *rest->bytes++;
+        rest->length--;
+    }
+    return number;
+}
+
+/* Starts a line. */
+static void indent(int depth)
+{
+    for (int i = 0; i < depth; i++) fputs("  ", stdout);
+}
+
+static void print_patterns(struct rest *rest, uint32_t count, int depth)
+{
+    puts(count == 0 ? "empty pattern set" : "pattern set");
+    for (uint32_t i = 0; i < count; i++) {
+        indent(depth);
+        for (int slot = 0; slot < 3; slot++) {
+            uint32_t field = take(rest, 3);
+            printf("%s%s%" PRIu32, slot == 0 ? "" : " ", field >> 20 == 1 ? "?" : "", field & 0xFFFFF);
+        }
+        putchar('\n');
+    }
+}
+
+/* Prints a condition within a line. */
+static void print_condition(struct rest *rest)
+{
+    uint32_t head = take(rest, 1), n = head & 15;
+    switch (head >> 4) {
+    case 0: printf("bound ?%" PRIu32, n); return;
+    case 1: printf("?%" PRIu32 " = ?%" PRIu32, n, take(rest, 1)); return;
+    case 2: printf("?%" PRIu32 " = %" PRIu32, n, take(rest, 3)); return;
+    case 3: printf("?%" PRIu32 " < ?%" PRIu32, n, take(rest, 1)); return;
+    case 4:
+        fputs("not ", stdout);
+        print_condition(rest);
+        return;
+    case 5:
+    case 6:
+        putchar('(');
+        print_condition(rest);
+        fputs(head >> 4 == 5 ? " and " : " or ", stdout);
+        print_condition(rest);
+        putchar(')');
+        return;
+    case 7: fputs("true", stdout); return;
+    default: fputs("unknown condition", stdout);
+    }
+}
+
+/* Prints an operator and the condition behind it. */
+static void print_on(const char *operator, struct rest *rest)
+{
+    fputs(operator, stdout);
+    print_condition(rest);
+    putchar('\n');
+}
+
+/* Prints the line of a node, and of its patterns, and answers how many operands follow. */
+static int print_head(struct rest *rest, int depth)
+{
+    uint32_t head = take(rest, 1), n = head & 15;
+    indent(depth);
+    switch (head >> 4) {
+    case 0: print_patterns(rest, n, depth + 1); return 0;
+    case 1: puts("join"); return 2;
+    case 2: print_on("left join on ", rest); return 2;
+    case 3: puts("union"); return 2;
+    case 4: print_on("filter ", rest); return 1;
+    case 5: printf("project trust ?%" PRIu32 "\n", n); return 1;
+    case 6: {
+        uint32_t bounds = take(rest, 3);
+        int low = (int)(bounds >> 12) - TRUST_ZERO, high = (int)(bounds & 0xFFF) - TRUST_ZERO;
+        printf("ensure trust %d to %d\n", low, high);
+        return 1;
+    }
+    default: puts("unknown node"); return 0;
+    }
+}
+
+static void print_node(struct rest *rest, int depth)
+{
+    int operands = print_head(rest, depth);
+    for (int i = 0; i < operands; i++) print_node(rest, depth + 1);
+}
+
+void print_tree(const uint8_t *query, size_t length)
+{
+    struct rest rest = {query, length};
+    print_node(&rest, 1);
+}

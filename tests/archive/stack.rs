@@ -1,0 +1,118 @@
+//! The stack of a test program, and the least stack on which a call answers its deepest queries.
+
+use crate::chains::Chain;
+use crate::paper::{self, NONE};
+use crate::report::Report;
+use std::process::{Command, Stdio};
+use std::thread;
+
+/// Stack for a test program itself: paper.rs, push.rs and queries.rs call themselves once for each level of a query.
+pub const OWN_STACK: usize = 256 << 20;
+
+/// The stack that the deepest query may need at most, in KiB.
+const MOST: usize = 8192;
+/// No thread has less.
+const LEAST: usize = 16;
+const STEP: usize = 4;
+
+/// A call and the deepest queries that it takes.
+pub struct Deepest<Answer> {
+    /// The header's name for the stack, in KiB, that the call needs.
+    pub figure: &'static str,
+    pub chains: Vec<Chain>,
+    pub call: fn(&[u8]) -> Answer,
+    /// The answer by an independent reading.
+    pub expected: fn(&[u8]) -> Answer,
+}
+
+impl<Answer: PartialEq + Send> Deepest<Answer> {
+    /// The call's answers to all chains, on a thread with so many KiB of stack.
+    fn answers(&self, kib: usize) -> Vec<Answer> {
+        let (chains, call) = (&self.chains, self.call);
+        thread::scope(|scope| {
+            let calls = move || chains.iter().map(|chain| call(&chain.query)).collect();
+            let builder = thread::Builder::new().stack_size(kib * 1024);
+            builder.spawn_scoped(scope, calls).expect("a thread").join().expect("answers")
+        })
+    }
+
+    fn right_on(&self, kib: usize) -> bool {
+        self.chains.iter().zip(self.answers(kib)).all(|(chain, answer)| (self.expected)(&chain.query) == answer)
+    }
+
+    /// The deepest queries on 8 MiB of stack, and the least stack that does.
+    pub fn test(&self, report: &mut Report) {
+        if child_status(MOST).is_none() {
+            println!("least stack: above {MOST} KiB");
+            return report.case(false, || format!("the deepest query overflows a stack of {MOST} KiB"));
+        }
+        for (chain, got) in self.chains.iter().zip(self.answers(MOST)) {
+            let read = paper::query(&chain.query, chain.query.len()).err().unwrap_or(NONE);
+            report.case(read == chain.refusal, || format!("{}: paper.rs differs", chain.name));
+            report.case(got == (self.expected)(&chain.query), || format!("{}: another answer", chain.name));
+        }
+        let Some(least) = least() else {
+            println!("least stack: not measured, since an answer is wrong");
+            return report.case(false, || "the least stack cannot be measured".to_string());
+        };
+        println!("least stack: {least} KiB");
+        let promised = self.promised();
+        report
+            .case(least <= promised, || format!("the header says that {promised} KiB of stack do, but {least} are needed"));
+    }
+
+    fn promised(&self) -> usize {
+        let header = include_str!("../../include/randwyler.h");
+        let start = format!("#define {} ", self.figure);
+        let figure = header.lines().find_map(|line| line.strip_prefix(&start));
+        figure.and_then(|text| text.trim().parse().ok()).expect("the header's figure for the stack")
+    }
+}
+
+/// The exit status of a child with so many KiB of stack; none if a signal ended it, as an overflow does.
+fn child_status(kib: usize) -> Option<i32> {
+    let program = std::env::current_exe().expect("the path of this program");
+    let mut command = Command::new(program);
+    command.args(["--stack", &kib.to_string()]).stdout(Stdio::null()).stderr(Stdio::null());
+    command.status().expect("a child process").code()
+}
+
+fn fits(kib: usize) -> bool {
+    child_status(kib) == Some(0)
+}
+
+/// The least stack in KiB on which every answer is right, found by bisection; none if `MOST` is too small.
+fn least() -> Option<usize> {
+    if !fits(MOST) {
+        return None;
+    }
+    if fits(LEAST) {
+        return Some(LEAST);
+    }
+    let (mut small, mut large) = (LEAST, MOST);
+    while large - small > STEP {
+        let middle = (small + large) / 2 / STEP * STEP;
+        if fits(middle) {
+            large = middle;
+        } else {
+            small = middle;
+        }
+    }
+    Some(large)
+}
+
+/// What a test program's main does: `run`s the test, or, as a child with `--stack KIB`, ends with 0 if the deepest
+/// queries are answered right on so small a stack.
+pub fn main<Answer: PartialEq + Send + 'static>(run: fn() -> i32, deepest: fn() -> Deepest<Answer>) {
+    let arguments: Vec<String> = std::env::args().skip(1).collect();
+    let act: Box<dyn FnOnce() -> i32 + Send> = match &arguments[..] {
+        [] => Box::new(run),
+        [option, kib] if option == "--stack" => {
+            let kib = kib.parse().expect("a number of KiB");
+            Box::new(move || i32::from(!deepest().right_on(kib)))
+        }
+        _ => panic!("the only option is --stack KIB"),
+    };
+    let status = thread::Builder::new().stack_size(OWN_STACK).spawn(act).expect("a thread").join().unwrap_or(101);
+    std::process::exit(status);
+}
