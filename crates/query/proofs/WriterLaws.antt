@@ -1,6 +1,6 @@
--- What the writers leave in an output: all bytes where they fit (`fits-wrote`), else none (`misfits`). Assumes nothing.
+-- What the writers leave in an output: all bytes where they fit (`stored`), else none (`misfits`). Assumes nothing.
 use mathlib.Core.Path.{_≡_, refl, sym, ap, _∙_}
-use mathlib.Core.Bool.{Bool, false, _&&_, cond}
+use mathlib.Core.Bool.{Bool, true, false, _&&_, cond}
 use mathlib.Core.List.{List, [], _++_, append-nil, append-assoc}
 use Prim.Native.Nat.{ℕ, _+_, _-_, _≤_, _<_, zero-le}
 use native.Mathlib.Nat.{zero-add}
@@ -9,14 +9,18 @@ use borrow.Author.Tests.{le-leb, lt-leb}
 use borrow.Rule.Slice.PartMut.{putMid, postOf, post-is}
 use lib.ListN.{length, take, drop, length-append, length-drop}
 use lib.Seq.{sets, sets-eq, take-at, drop-at, drop-drop, drop-length}
-use Rattle.query.specs.Writers.{Wrote, WroteIfFits}
+use Rattle.tsparql.specs.Writing.{patternBytes}
+use Rattle.tsparql.specs.Reading.{slotSound}
+use Rattle.tsparql.proofs.WrittenRead.{slotOf-sound}
+use Rattle.query.specs.declared.Pattern.{Pattern}
+use Rattle.query.specs.Writers.{slotsBytes, soundPatternBytes, Wrote, WroteIfFits}
 use Rattle.query.proofs.ReadLaws.{part-drop}
 
 -- bytes stored one by one from the front
 pub wrote-sets : (ws out : List ℕ) → length ws ≤ length out → Wrote ws out (sets out 0 ws) (length ws)
 wrote-sets ws out h = record { size = refl; bytes = sets-eq ws out 0 (rw zero-add h) ∙ rw zero-add }
 
-pub fits-wrote : (ws out out′ : List ℕ) (r : ℕ) → length ws ≤ length out → Wrote ws out out′ r → WroteIfFits ws out out′ r
+fits-wrote : (ws out out′ : List ℕ) (r : ℕ) → length ws ≤ length out → Wrote ws out out′ r → WroteIfFits ws out out′ r
 fits-wrote ws out out′ r h w = rw (le-leb (length ws) (length out) h) w
 
 -- bytes that fit
@@ -26,13 +30,35 @@ stored ws out h = fits-wrote ws out (sets out 0 ws) (length ws) h (wrote-sets ws
 pub misfits : (ws out : List ℕ) → length out < length ws → WroteIfFits ws out out 0
 misfits ws out h = rw (lt-leb (length ws) (length out) h) (record { size = refl; bytes = refl })
 
--- nothing is written of a value out of range
-pub nothing-wrote : (t : Bool) (ws out : List ℕ) → t ≡ false → WroteIfFits (cond t ws []) out out 0
-nothing-wrote t ws out e = rw (e, le-leb 0 (length out) zero-le) (record { size = refl; bytes = refl })
+-- ---- bytes of a value whose numbers pass a test
+
+module _ (t : Bool) (ws out : List ℕ) where
+  pub stored-if : t ≡ true → length ws ≤ length out → WroteIfFits (cond t ws []) out (sets out 0 ws) (length ws)
+  stored-if e h = rw e (stored ws out h)
+
+  pub misfits-if : t ≡ true → length out < length ws → WroteIfFits (cond t ws []) out out 0
+  misfits-if e h = rw e (misfits ws out h)
+
+  -- nothing is written of a value out of range
+  pub nothing-wrote : t ≡ false → WroteIfFits (cond t ws []) out out 0
+  nothing-wrote e = rw (e, le-leb 0 (length out) zero-le) (record { size = refl; bytes = refl })
+
+pub and-true : (a b : Bool) → a ≡ true → b ≡ true → a && b ≡ true
+and-true a b d e = rw (d, e)
 
 pub and-false : (a b : Bool) → b ≡ false → a && b ≡ false
-and-false Bool.true b e = e
-and-false Bool.false b e = refl
+and-false true b e = e
+and-false false b e = refl
+
+pub false-and : (a b : Bool) → a ≡ false → a && b ≡ false
+false-and a b e = rw e
+
+-- a pattern whose slots are sound is written as their numbers
+pub pattern-slots : (p : Pattern) → slotSound (p .subject) ≡ true → slotSound (p .predicate) ≡ true → slotSound (p .object) ≡ true
+    → soundPatternBytes p ≡ slotsBytes p
+unfolding patternBytes
+pattern-slots p d e f =
+    rw (d, e, f, slotOf-sound (p .subject) d .1, slotOf-sound (p .predicate) e .1, slotOf-sound (p .object) f .1)
 
 -- ---- one behind the other
 

@@ -3,7 +3,7 @@
 use mathlib.Core.Path.{_≡_}
 use mathlib.Core.Bool.{_&&_, cond}
 use mathlib.Core.List.{List, [], _∷_, _++_}
-use Prim.Native.Nat.{ℕ, _+_, _*_}
+use Prim.Native.Nat.{ℕ, _+_, _*_, _<_}
 use lib.Dec.{leb, ltb}
 use lib.ListN.{length, drop}
 use Rattle.tsparql.specs.Writing.{firstByte, threeBytes, patternBytes}
@@ -53,6 +53,13 @@ conditionHeadBytes C.Not = firstBytes 4 0
 conditionHeadBytes C.And = firstBytes 5 0
 conditionHeadBytes C.Or = firstBytes 6 0
 conditionHeadBytes C.True = firstBytes 7 0
+
+-- slots of 24 bits, one behind the other
+abbrev pub SlotsSmall : Pattern → Type 0
+SlotsSmall p = (p .subject < 16777216) × (p .predicate < 16777216) × (p .object < 16777216)
+
+abbrev pub slotsBytes : Pattern → List ℕ
+slotsBytes p = threeBytes (p .subject) ++ (threeBytes (p .predicate) ++ threeBytes (p .object))
 
 -- a pattern
 abbrev pub soundPatternBytes : Pattern → List ℕ

@@ -133,11 +133,11 @@ module _ {A B : Type 0} (F : A → Type 0) (write : A → List ℕ) (P : B → �
 
 -- ---- slots and patterns
 
-termSound-formed : (a : ℕ) → termSound a ≡ true → TermFormed a
+pub termSound-formed : (a : ℕ) → termSound a ≡ true → TermFormed a
 termSound-formed a e =
     (ltb-true 0 a (and-left (ltb 0 a) (ltb a 1048576) e), ltb-true a 1048576 (and-right (ltb 0 a) (ltb a 1048576) e))
 
-slotSound-range : (x : ℕ) → slotSound x ≡ true → (0 < x) × (x < 1048592)
+pub slotSound-range : (x : ℕ) → slotSound x ≡ true → (0 < x) × (x < 1048592)
 slotSound-range x e = go (termSound x) refl
   where
     go : (b : Bool) → termSound x ≡ b → (0 < x) × (x < 1048592)
@@ -149,7 +149,7 @@ slotSound-range x e = go (termSound x) refl
         omega arith
 
 -- a sound number is a formed slot's
-slotOf-sound : (x : ℕ) → slotSound x ≡ true → SlotFormed (slotOf x) × (slotNumber (slotOf x) ≡ x)
+pub slotOf-sound : (x : ℕ) → slotSound x ≡ true → SlotFormed (slotOf x) × (slotNumber (slotOf x) ≡ x)
 slotOf-sound x e = go (ltb x 1048576) refl
   where
     go : (b : Bool) → ltb x 1048576 ≡ b → let y : Slot = cond b (aTerm x) (aVariable (x % 1048576)) in SlotFormed y × (slotNumber y ≡ x)

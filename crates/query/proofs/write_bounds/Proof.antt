@@ -1,6 +1,5 @@
 -- By the tests. Assumes nothing.
 use mathlib.Core.Path.{ap, _∙_}
-use mathlib.Core.Bool.{_&&_}
 use mathlib.Core.List.{_∷_}
 use Prim.Native.Nat.{_+_, _*_}
 use native.Mathlib.Omega.{arith}
@@ -9,7 +8,7 @@ use lib.Dec.{leb}
 use lib.ListN.{length}
 use lib.ListN.{length-set}
 use Rattle.tsparql.specs.Writing.{firstByte, threeBytes}
-use Rattle.query.proofs.WriterLaws.{stored, misfits, nothing-wrote, and-false}
+use Rattle.query.proofs.WriterLaws.{stored-if, misfits-if, nothing-wrote, and-true, and-false, false-and}
 use borrow.Author.Needs.{needs}
 use Rattle.query.proofs.write_bounds.Statement.{statement}
 use Rattle.query.proofs.write_bounds.Tie as tie
@@ -33,14 +32,15 @@ same-length c = ap length (c .before .before .put-bits .ensures) ∙ simp length
 returns : tie.Need-returns
 returns c =
     let a = c .before .before .before .before .before .before .before .before .args in
-    rw (le-leb (a .l) 2000 (omega arith), le-leb (a .u) 2000 (omega arith), c .before .before .put-bits .ensures)
-    (stored (firstByte 6 0 ∷ threeBytes (4096 * a .l + a .u)) (a .out .now) (omega arith))
+    rw (c .before .before .put-bits .ensures)
+    (stored-if _ (firstByte 6 0 ∷ threeBytes (4096 * a .l + a .u)) (a .out .now)
+    (and-true _ _ (le-leb (a .l) 2000 (omega arith)) (le-leb (a .u) 2000 (omega arith))) (omega arith))
 
 returns-2 : tie.Need-returns-2
 returns-2 c =
     let a = c .before .before .before .before .args in
-    rw (le-leb (a .l) 2000 (omega arith), le-leb (a .u) 2000 (omega arith))
-    (misfits (firstByte 6 0 ∷ threeBytes (4096 * a .l + a .u)) (a .out .now) (omega arith))
+    misfits-if _ (firstByte 6 0 ∷ threeBytes (4096 * a .l + a .u)) (a .out .now)
+    (and-true _ _ (le-leb (a .l) 2000 (omega arith)) (le-leb (a .u) 2000 (omega arith))) (omega arith)
 
 returns-3 : tie.Need-returns-3
 returns-3 c =
@@ -50,7 +50,7 @@ returns-3 c =
 returns-4 : tie.Need-returns-4
 returns-4 c =
     let a = c .before .before .args in
-    nothing-wrote (leb (a .l) 2000 && leb (a .u) 2000) _ (a .out .now) (rw (lt-leb (a .l) 2000 (omega arith)))
+    nothing-wrote _ _ (a .out .now) (false-and (leb (a .l) 2000) (leb (a .u) 2000) (lt-leb (a .l) 2000 (omega arith)))
 
 pub write-bounds-spec : {M : Type 1} → statement M
 write-bounds-spec =

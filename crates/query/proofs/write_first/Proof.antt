@@ -3,7 +3,7 @@ use mathlib.Core.List.{[], _∷_}
 use native.Mathlib.Omega.{arith}
 use borrow.Author.Tests.{lt-ltb, le-ltb}
 use Rattle.tsparql.specs.Writing.{firstByte}
-use Rattle.query.proofs.WriterLaws.{stored, misfits, nothing-wrote}
+use Rattle.query.proofs.WriterLaws.{stored-if, misfits-if, nothing-wrote}
 use borrow.Author.Needs.{needs}
 use Rattle.query.proofs.write_first.Statement.{statement}
 use Rattle.query.proofs.write_first.Tie as tie
@@ -23,12 +23,12 @@ same-length c = search needs
 returns : tie.Need-returns
 returns c =
     let a = c .before .before .args in
-    rw (lt-ltb (a .n) 16 (omega arith)) (stored (firstByte (a .kind) (a .n) ∷ []) (a .out .now) (omega arith))
+    stored-if _ (firstByte (a .kind) (a .n) ∷ []) (a .out .now) (lt-ltb (a .n) 16 (omega arith)) (omega arith)
 
 returns-2 : tie.Need-returns-2
 returns-2 c =
     let a = c .before .before .args in
-    rw (lt-ltb (a .n) 16 (omega arith)) (misfits (firstByte (a .kind) (a .n) ∷ []) (a .out .now) (omega arith))
+    misfits-if _ (firstByte (a .kind) (a .n) ∷ []) (a .out .now) (lt-ltb (a .n) 16 (omega arith)) (omega arith)
 
 returns-3 : tie.Need-returns-3
 returns-3 c =
