@@ -23,7 +23,7 @@ use Rattle.tsparql.specs.WellFormed.{NodeFormed}
 use Rattle.query.specs.declared.Head.{Head}
 use Rattle.query.specs.declared.Head.the-variants as H
 use Rattle.query.specs.Answers.{nodeHead}
-use Rattle.query.specs.Parts.{conditionsFrom, nodeHeadRead, beforeOperands}
+use Rattle.query.specs.Parts.{conditionsFrom, nodeHeadRead, beforeOperands, ownRead}
 use Rattle.query.proofs.ReadLaws.{by-kind, fault-not-got}
 use Rattle.query.proofs.NodeParts.{one-condition}
 
@@ -240,6 +240,10 @@ module _ (s : List ℕ) (x : Node) (n : ℕ) where
 -- a node that was read is its parts
 pub node-found : (s : List ℕ) (x : Node) (n : ℕ) → readNode s ≡ got x n → NodeFound s x n
 node-found s x n e = node-found-step s x n (sym (readNode-step s) ∙ e)
+
+-- its own part is its head, and the place of its operands
+pub own-read : {s : List ℕ} {x : Node} {n : ℕ} → NodeFound s x n → ownRead s ≡ got (nodeHead x) (operandsAt x n)
+own-read f = rw (f .head-is, f .before-is)
 
 -- ---- a walk from head to head
 

@@ -1,9 +1,9 @@
--- The definitions' reader of a node is the head, what stands before its operands, and the operands (`node-parts`); no place is behind
--- the end. Assumes nothing.
-use mathlib.Core.Path.{_≡_, refl, ap, _∙_}
+-- The definitions' reader of a node is its own part, the head with what stands before its operands, and then the operands (`node-parts`);
+-- no place is behind the end. Assumes nothing.
+use mathlib.Core.Path.{_≡_, refl, sym, ap, _∙_}
 use mathlib.Core.Bool.{Bool, true, false, _&&_}
 use mathlib.Core.List.{List}
-use Prim.Native.Nat.{ℕ, zero, suc, _+_, _-_, _/_, _%_, _≤_, _<_, zero-le}
+use Prim.Native.Nat.{ℕ, zero, suc, _+_, _-_, _/_, _%_, _≤_, _<_}
 use native.Mathlib.Omega.{arith}
 use borrow.Author.Tests.{ne-eqb, eqb-false, leb-true}
 use lib.Dec.{eqb, leb}
@@ -20,12 +20,12 @@ use Rattle.query.specs.declared.Head.{Head}
 use Rattle.query.specs.declared.Head.the-variants as H
 use Rattle.query.specs.Answers.{nodeHead}
 use Rattle.query.specs.Parts.{mapRead, placed, shift, follow, conditionsFrom, boundsHead, plainHead, nodeHeadRead, patternsFrom}
-use Rattle.query.specs.Parts.{beforeOperands, nodeOperands, nodesFrom}
-use Rattle.query.proofs.ReadLaws.{placeOf, by-kind, cond-cases, require-cases, follow-fault, follow-got}
+use Rattle.query.specs.Parts.{beforeOperands, ownRead, nodeOperands, nodesFrom}
+use Rattle.query.proofs.ReadLaws.{placeOf, placeOf-map, by-kind, cond-cases, require-cases, follow-fault, follow-got, fault-not-got}
 use Rattle.query.proofs.ConditionParts.{condition-inside}
 
 -- what stands behind a head's own bytes, to the last operand
-abbrev pub nodesAfter : List ℕ → Head → ℕ → Read (Unit {0})
+abbrev nodesAfter : List ℕ → Head → ℕ → Read (Unit {0})
 nodesAfter s h own = follow (beforeOperands s h own) (λ _ at. nodesFrom (nodeOperands h) at s)
 
 -- ---- operands
@@ -89,10 +89,10 @@ require-parts f false r x k e = refl
 abbrev headAfter : List ℕ → Head → ℕ → Read Head
 headAfter s h own = mapRead (λ _. h) (nodesAfter s h own)
 
--- the head, what stands before its operands, and the operands
-pub node-parts : (s : List ℕ) → mapRead nodeHead (readNode s) ≡ follow (nodeHeadRead s) (headAfter s)
+-- the head, and what stands behind its own bytes
+head-parts : (s : List ℕ) → mapRead nodeHead (readNode s) ≡ follow (nodeHeadRead s) (headAfter s)
 unfolding nodeStep nodeHeadRead
-node-parts s = ap (mapRead nodeHead) (readNode-step s) ∙ go (eqb (length s) 0) refl
+head-parts s = ap (mapRead nodeHead) (readNode-step s) ∙ go (eqb (length s) 0) refl
   where
     low : Bool
     low = eqb (lowOf s) 0
@@ -153,6 +153,26 @@ node-parts s = ap (mapRead nodeHead) (readNode-step s) ∙ go (eqb (length s) 0)
           other k 6 (omega arith),
         ) (none low))
 
+-- the operands of a head, from a place on
+abbrev pub operandsFrom : List ℕ → Head → ℕ → Read (Unit {0})
+operandsFrom s h at = nodesFrom (nodeOperands h) at s
+
+-- the node's own part, and then its operands
+pub node-parts : (s : List ℕ) → mapRead nodeHead (readNode s) ≡ follow (ownRead s) (λ h at. mapRead (λ _. h) (operandsFrom s h at))
+node-parts s = head-parts s ∙ go (nodeHeadRead s)
+  where
+    go : (r : Read Head)
+        → follow r (headAfter s)
+        ≡ follow (follow r (λ h own. mapRead (λ _. h) (beforeOperands s h own))) (λ h at. mapRead (λ _. h) (operandsFrom s h at))
+    go (got h own) = before (beforeOperands s h own)
+      where
+        before : (b : Read (Unit {0}))
+            → mapRead (λ _. h) (follow b (λ _ at. operandsFrom s h at))
+            ≡ follow (mapRead (λ _. h) b) (λ h at. mapRead (λ _. h) (operandsFrom s h at))
+        before (got u at) = refl
+        before (fault p) = refl
+    go (fault p) = refl
+
 -- ---- places
 
 pub node-inside : (s : List ℕ) → placeOf (readNode s) ≤ length s
@@ -162,15 +182,15 @@ node-inside s = go (readNode s) (readNode-sound s)
     go (got x n) h = h .1 .inside
     go (fault p) h = h
 
--- a head's own bytes are there, one at least, and it has two operands at most
+-- a head's own bytes are there, one at least
 abbrev HeadInside : ℕ → Read Head → Type 0
-HeadInside n (got h own) = (1 ≤ own) × (own ≤ n) × (nodeOperands h ≤ 2)
+HeadInside n (got h own) = (1 ≤ own) × (own ≤ n)
 HeadInside n (fault p) = Unit {0}
 
 bounds-inside : (s : List ℕ) (n : ℕ) → HeadInside (length s) (boundsHead s n)
 bounds-inside s n =
     require-cases (HeadInside (length s)) (eqb n 0) (require test head) tt
-    (λ _. require-cases (HeadInside (length s)) test head tt λ t. (omega arith, long t, omega arith))
+    (λ _. require-cases (HeadInside (length s)) test head tt λ t. (omega arith, long t))
   where
     low : Bool
     low = leb (bits24 s 1 / 4096) 2000
@@ -190,10 +210,10 @@ bounds-inside s n =
 plain-inside : (n kind low : ℕ) → 1 ≤ n → HeadInside n (plainHead kind low)
 plain-inside n kind low h =
     require-cases P (eqb low 0) _ tt
-    λ _. cond-cases P (eqb kind 1) _ _ (λ _. (omega arith, h, omega arith))
-    λ _. cond-cases P (eqb kind 2) _ _ (λ _. (omega arith, h, omega arith))
-    λ _. cond-cases P (eqb kind 3) _ _ (λ _. (omega arith, h, omega arith))
-    λ _. cond-cases P (eqb kind 4) _ _ (λ _. (omega arith, h, omega arith)) (λ _. tt)
+    λ _. cond-cases P (eqb kind 1) _ _ (λ _. (omega arith, h))
+    λ _. cond-cases P (eqb kind 2) _ _ (λ _. (omega arith, h))
+    λ _. cond-cases P (eqb kind 3) _ _ (λ _. (omega arith, h))
+    λ _. cond-cases P (eqb kind 4) _ _ (λ _. (omega arith, h)) (λ _. tt)
   where
     P : Read Head → Type 0
     P = HeadInside n
@@ -203,15 +223,15 @@ unfolding nodeHeadRead
 head-inside s =
     cond-cases P (eqb (length s) 0) _ _ (λ _. tt)
     λ e. let long : 1 ≤ length s = omega (arith, eqb-false (length s) 0 e) in
-    cond-cases P (eqb (kindOf s) 0) _ _ (λ _. (omega arith, long, zero-le))
-    λ _. cond-cases P (eqb (kindOf s) 5) _ _ (λ _. (omega arith, long, omega arith))
+    cond-cases P (eqb (kindOf s) 0) _ _ (λ _. (omega arith, long))
+    λ _. cond-cases P (eqb (kindOf s) 5) _ _ (λ _. (omega arith, long))
     λ _. cond-cases P (eqb (kindOf s) 6) _ _ (λ _. bounds-inside s (lowOf s)) (λ _. plain-inside (length s) (kindOf s) (lowOf s) long)
   where
     P : Read Head → Type 0
     P = HeadInside (length s)
 
 pub node-head-inside : (s : List ℕ) {h : Head} {own : ℕ} → nodeHeadRead s ≡ got h own
-    → (1 ≤ own) × (own ≤ length s) × (nodeOperands h ≤ 2)
+    → (1 ≤ own) × (own ≤ length s)
 node-head-inside s e = rw e at (head-inside s)
 
 -- ---- the code's steps
@@ -266,10 +286,14 @@ before-inside s H.Filter own l = condition-after s own l
 before-inside s (H.ProjectTrust v) own l = (omega arith, l)
 before-inside s (H.EnsureTrust a u) own l = (omega arith, l)
 
--- the operands begin where what stands before them ends
-pub nodesAfter-fault : (s : List ℕ) (h : Head) (own p : ℕ) → beforeOperands s h own ≡ fault p → nodesAfter s h own ≡ fault p
-nodesAfter-fault s h own p e = rw e
-
-pub nodesAfter-got : (s : List ℕ) (h : Head) (own at : ℕ) → beforeOperands s h own ≡ got tt at
-    → nodesAfter s h own ≡ nodesFrom (nodeOperands h) at s
-nodesAfter-got s h own at e = rw e
+pub own-inside : (s : List ℕ) {h : Head} {at : ℕ} → ownRead s ≡ got h at → (1 ≤ at) × (at ≤ length s)
+own-inside s {h} {at} e = go (nodeHeadRead s) refl
+  where
+    go : (r : Read Head) → nodeHeadRead s ≡ r → (1 ≤ at) × (at ≤ length s)
+    go (got g own) d =
+        let head = node-head-inside s d in
+        let inside = before-inside s g own (head .1) in
+        let is : placeOf (beforeOperands s g own) ≡ at =
+        sym (placeOf-map (λ _. g) (beforeOperands s g own)) ∙ ap placeOf (rw d at e) in
+        (omega arith, omega arith)
+    go (fault p) d = absurd (fault-not-got (rw d at e))

@@ -16,7 +16,7 @@ use Rattle.query.specs.Variables.{NodeSound, nodeOf}
 use Rattle.query.proofs.ReadLaws.{placeOf, fault-not-got}
 use Rattle.query.proofs.NodeParts.{node-inside}
 use Rattle.query.proofs.Forest.{ReadsAll, readsAll-inside, operandsIn, operandsAt, operandsAt-positive}
-use Rattle.query.proofs.Forest.{NodeFound, node-found, read-size, read-formed}
+use Rattle.query.proofs.Forest.{NodeFound, node-found, own-read, read-size, read-formed}
 
 -- the head is the node's, and the place that of its operands
 pub record Own (s : List ℕ) (h : Head) (k : ℕ) : Type 0 where
@@ -34,11 +34,10 @@ found-is s x n e =
     let is : nodeOf s ≡ x = rw e in
     (is, ap nodeSize is ∙ sym (read-size s x n e))
 
-own-node : (s : List ℕ) (h : Head) (k : ℕ) (x : Node) (n : ℕ) → readNode s ≡ got x n → NodeFound s x n → ownRead s ≡ got h k
+own-node : {s : List ℕ} {h : Head} {k : ℕ} {x : Node} {n : ℕ} → NodeFound s x n → ownRead s ≡ got h k
     → (nodeHead x ≡ h) × (operandsAt x n ≡ k)
-own-node s h k x n d f e =
-    let here : ownRead s ≡ got (nodeHead x) (operandsAt x n) = rw (f .head-is, f .before-is) in
-    let is = sym here ∙ e in
+own-node f e =
+    let is = sym (own-read f) ∙ e in
     (cc, cc)
 
 pub own-found : (s : List ℕ) (h : Head) (k : ℕ) → NodeSound s → ownRead s ≡ got h k → Own s h k
@@ -48,7 +47,7 @@ own-found s h k sound e = go (readNode s) refl
     go (got x n) d =
         let f = node-found s x n d in
         let is = found-is s x n d in
-        let o = own-node s h k x n d f e in
+        let o = own-node f e in
         let end : placeOf (readNode s) ≡ n = rw d in
         let place : operandsAt (nodeOf s) (nodeSize (nodeOf s)) ≡ k = rw (is .1, is .0) (o .1) in
         let operands : ReadsAll s k (operandsIn (nodeOf s)) (nodeSize (nodeOf s)) = rw (is .1, is .0, ← o .1) (f .operands-are) in
@@ -74,10 +73,7 @@ pub own-sound : (s : List ℕ) (p : ℕ) → NodeSound s → ownRead s ≡ fault
 own-sound s p sound e = go (readNode s) refl
   where
     go : (r : Read Node) → readNode s ≡ r → ⊥
-    go (got x n) d =
-        let f = node-found s x n d in
-        let here : ownRead s ≡ got (nodeHead x) (operandsAt x n) = rw (f .head-is, f .before-is) in
-        fault-not-got (sym e ∙ here)
+    go (got x n) d = fault-not-got (sym e ∙ own-read (node-found s x n d))
     go (fault q) d = rw d at sound
 
 -- ---- one and two operands

@@ -25,12 +25,12 @@ use Rattle.query.specs.declared.Clash.{Clash}
 use Rattle.query.specs.declared.Clash.the-variants as C
 use Rattle.query.specs.declared.QueryAnswer.{QueryAnswer}
 use Rattle.query.specs.declared.QueryAnswer.the-variants as A
-use Rattle.query.specs.Parts.{mapRead, nodeHeadRead}
+use Rattle.query.specs.Parts.{mapRead, placed, nodeHeadRead}
 use Rattle.query.specs.Variables.{has, IsGot, PatternsSound, patternsOf, NodeSound, nodeOf, ownUses, nextNode}
 use Rattle.query.specs.Variables.{headVariable, foundVariable, projectedIn, QuerySound, clashesWith, clashAt, clashIn, Checked}
 use Rattle.query.proofs.ReadLaws.{fault-not-got}
 use Rattle.query.proofs.Forest.{ReadsAll, readsAll-inside, operandsIn, operandsAt, operandsAt-positive, PatternsRead}
-use Rattle.query.proofs.Forest.{node-found, read-size, read-formed, forest-step, forest-end}
+use Rattle.query.proofs.Forest.{node-found, own-read, read-size, read-formed, forest-step, forest-end}
 use Rattle.query.proofs.Uses.{uses, forestUses, forestUses-step, occurrences-append, uses-clashes, forestProjections, ownProjection}
 use Rattle.query.proofs.Uses.{clash-pass, clash-free, clash-here}
 
@@ -142,7 +142,7 @@ node-here s at (x ∷ xs) l h =
       end = h .0;
       read = h .1;
       head = ap foundVariable (step .0 .head-is);
-      next = rw (step .0 .head-is) (step .0 .before-is ∙ ap (λ m. got (tt {0}) (operandsAt x m)) size);
+      next = ap placed (own-read (step .0)) ∙ ap (λ m. got (tt {0}) (operandsAt x m)) size;
       reads = subst (λ m. ReadsAll s (at + operandsAt x m) (operandsIn x ++ xs) (length s)) size (step .1);
     }
 

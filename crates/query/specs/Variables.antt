@@ -17,7 +17,7 @@ use Rattle.query.specs.declared.Clash.{Clash}
 use Rattle.query.specs.declared.Clash.the-variants as C
 use Rattle.query.specs.declared.QueryAnswer.{QueryAnswer}
 use Rattle.query.specs.declared.QueryAnswer.the-variants as A
-use Rattle.query.specs.Parts.{follow, nodeHeadRead, beforeOperands}
+use Rattle.query.specs.Parts.{placed, nodeHeadRead, ownRead}
 
 -- ---- where a variable stands
 
@@ -65,7 +65,7 @@ ownUses v (ensureTrust l u x) = 0
 
 -- the place behind a head and its patterns or condition
 abbrev pub nextNode : List ℕ → Read (Unit {0})
-nextNode s = follow (nodeHeadRead s) (beforeOperands s)
+nextNode s = placed (ownRead s)
 
 -- the variable of a project trust head, or 16
 abbrev pub headVariable : Head → ℕ

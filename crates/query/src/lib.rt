@@ -434,13 +434,9 @@ pub fn read_own(q: &[u8]) -> NodeRead
 pub fn read_node(q: &[u8]) -> NodeRead
     ensures { λ r. ⌜ nodeFound r ≡ mapRead nodeHead (readNode (now (q .entry))) ⌝ }
 {
-    let h = read_head(q);
-    let NodeRead::Node(head, own) = h else {
+    let h = read_own(q);
+    let NodeRead::Node(head, at) = h else {
         return h;
-    };
-    let b = before_operands(q, head, own);
-    let Place::At(at) = b else {
-        return NodeRead::Fault(place_fault(b));
     };
     let n = node_operands(head);
     let e = read_nodes(q, at, n);
@@ -670,11 +666,11 @@ fn own_uses(q: &[u8], v: u8) -> u32
 pub fn next_node(q: &[u8]) -> Place
     ensures { λ r. ⌜ placeFound r ≡ nextNode (now (q .entry)) ⌝ }
 {
-    let h = read_head(q);
-    let NodeRead::Node(head, own) = h else {
+    let h = read_own(q);
+    let NodeRead::Node(_, at) = h else {
         return Place::Fault(node_fault(h));
     };
-    before_operands(q, head, own)
+    Place::At(at)
 }
 
 // The variable that a node projects its trust to, or 16 where it is another node.

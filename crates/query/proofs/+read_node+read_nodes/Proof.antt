@@ -1,13 +1,13 @@
 -- A node and its operands call each other: the measure is four times the bytes left, and above that 3 for the node, or how many operands
--- are left. The answers are put together by the laws of NodeParts. Assumes nothing.
+-- are left. The answers are put together by `node-parts`. Assumes nothing.
 use mathlib.Core.Path.{_≡_, sym, ap, _∙_}
 use native.Mathlib.Omega.{arith}
 use Rattle.tsparql.specs.Reading.{got, fault, readNode}
 use Rattle.query.specs.Answers.{nodeHead, nodeFound, placeFound, faultIn}
-use Rattle.query.specs.Parts.{mapRead, nodeHeadRead, nodesFrom}
+use Rattle.query.specs.Parts.{mapRead, ownRead, nodesFrom}
 use Rattle.query.proofs.ReadLaws.{part-drop, placeOf, faultIn-≤, head-fault, operands-fault, operands-got, place-part}
-use Rattle.query.proofs.NodeParts.{nodesAfter, node-parts, node-inside, node-head-inside, nodes-fault, nodes-next, before-inside}
-use Rattle.query.proofs.NodeParts.{nodesAfter-fault, nodesAfter-got}
+use Rattle.query.proofs.NodeParts.{operandsFrom, node-parts, node-inside, own-inside, nodes-fault, nodes-next}
+use Rattle.query.proofs.Operands.{operands-few}
 use borrow.Author.Needs.{needs}
 use lib.ListN.{length}
 use Prim.Native.Nat.{_+_, _*_, ℕ, _<_}
@@ -19,11 +19,10 @@ use Rattle.query.proofs.+read_node+read_nodes.Lts-read_node as read-nod
 use Rattle.query.proofs.read_nodes.Reads as read-nodes
 use Rattle.query.proofs.read_nodes.Kinds as read-nodes-kinds
 use Rattle.query.proofs.+read_node+read_nodes.Lts-read_nodes as read-nodes-lts
-use Rattle.query.proofs.before_operands.Reads as before-operands-reads
 use Rattle.query.proofs.node_fault.Reads as node-fault-reads
 use Rattle.query.proofs.node_operands.Reads as node-operands-reads
 use Rattle.query.proofs.place_fault.Reads as place-fault-reads
-use Rattle.query.proofs.read_head.Reads as read-head-reads
+use Rattle.query.proofs.read_own.Reads as read-own-reads
 use Rattle.query.proofs.+read_node+read_nodes.{statement}
 use Rattle.query.proofs.+read_node+read_nodes.Tie.{close}
 
@@ -50,24 +49,22 @@ read-nodes-below t =
 
 abbrev read-node-calls : ℕ → read-node-lts.Claims
 read-node-calls t = (
-  read-head-reads.Asked,
-  read-head-reads.Learnt,
-  before-operands-reads.Asked,
-  before-operands-reads.Learnt,
-  place-fault-reads.Asked,
-  place-fault-reads.Learnt,
+  read-own-reads.Asked,
+  read-own-reads.Learnt,
   node-operands-reads.Asked,
   node-operands-reads.Learnt,
   read-nodes-below t,
   read-nodes.Post,
+  place-fault-reads.Asked,
+  place-fault-reads.Learnt,
 )
 
 abbrev read-nodes-calls : ℕ → read-nodes-lts.Claims
 read-nodes-calls t =
     (read-node-below t, read-node.Post, node-fault-reads.Asked, node-fault-reads.Learnt, read-nodes-below t, read-nodes.Post)
 
-read-node-read-head-requires : (t : ℕ) → read-node-lts.Need-read-head-requires (read-node-calls t) (read-node-at t) read-node.Post
-read-node-read-head-requires t c κs = search needs
+read-node-read-own-requires : (t : ℕ) → read-node-lts.Need-read-own-requires (read-node-calls t) (read-node-at t) read-node.Post
+read-node-read-own-requires t c κs = search needs
 
 read-node-enum-known-h : (t : ℕ) → read-node-lts.Need-enum-known-h (read-node-calls t) (read-node-at t) read-node.Post
 read-node-enum-known-h t c = search needs
@@ -78,19 +75,27 @@ read-node-enum-told t c = search needs
 read-node-returns : (t : ℕ) → read-node-lts.Need-returns (read-node-calls t) (read-node-at t) read-node.Post
 read-node-returns t c =
     let s = c .before .before .before .before .args .q .now in
-    let bad : nodeHeadRead s ≡ fault _ = sym (c .before .before .read-head .ensures) ∙ ap nodeFound (c .enum-told .given .1) in
-    c .before .before .read-head .ensures ∙ bad ∙ sym (head-fault _ _ (nodesAfter s) (node-parts s) _ bad)
+    let bad : ownRead s ≡ fault _ = sym (c .before .before .read-own .ensures) ∙ ap nodeFound (c .enum-told .given .1) in
+    c .before .before .read-own .ensures ∙ bad ∙ sym (head-fault _ _ (operandsFrom s) (node-parts s) _ bad)
 
-read-node-before-operands-requires : (t : ℕ) → read-node-lts.Need-before-operands-requires (read-node-calls t)
-    (read-node-at t) read-node.Post
-read-node-before-operands-requires t c κs =
-    let h =
-    node-head-inside (c .before .before .before .before .before .args .q .now)
-    (sym (c .before .before .before .read-head .ensures) ∙ ap nodeFound (c .before .h .given .1)) in
-    (h .0, h .1)
+read-node-node-operands-requires : (t : ℕ) → read-node-lts.Need-node-operands-requires (read-node-calls t) (read-node-at t) read-node.Post
+read-node-node-operands-requires t c κs = search needs
 
-read-node-enum-known-b : (t : ℕ) → read-node-lts.Need-enum-known-b (read-node-calls t) (read-node-at t) read-node.Post
-read-node-enum-known-b t c = search needs
+-- the node's own part
+own-is : (t : ℕ) (c : read-node-lts.After-known-told (read-node-calls t) (read-node-at t) read-node.Post)
+    → ownRead (c .before .before .before .before .before .args .q .now) ≡ got (c .before .h .given .0 .0) (c .before .h .given .0 .1 .0)
+own-is t c = sym (c .before .before .before .read-own .ensures) ∙ ap nodeFound (c .before .h .given .1)
+
+read-node-read-nodes-requires : (t : ℕ) → read-node-lts.Need-read-nodes-requires (read-node-calls t) (read-node-at t) read-node.Post
+read-node-read-nodes-requires t c κs =
+    let start = c .before .before .before .before .before .before in
+    let inside = own-inside (start .args .q .now) (own-is t (c .before)) in
+    let few = operands-few (c .before .before .h .given .0 .0) in
+    let n = c .node-operands .ensures in
+    (omega (arith, start .pre .0, n, few), (inside .0, inside .1, omega (arith, n, few)))
+
+read-node-enum-known-e : (t : ℕ) → read-node-lts.Need-enum-known-e (read-node-calls t) (read-node-at t) read-node.Post
+read-node-enum-known-e t c = search needs
 
 read-node-enum-told-2 : (t : ℕ) → read-node-lts.Need-enum-told-2 (read-node-calls t) (read-node-at t) read-node.Post
 read-node-enum-told-2 t c = search needs
@@ -98,83 +103,30 @@ read-node-enum-told-2 t c = search needs
 read-node-place-fault-requires : (t : ℕ) → read-node-lts.Need-place-fault-requires (read-node-calls t) (read-node-at t) read-node.Post
 read-node-place-fault-requires t c κs = search needs
 
+-- the operands behind it
+operands-are : (t : ℕ) (c : read-node-lts.After-read-nodes (read-node-calls t) (read-node-at t) read-node.Post)
+    → let own = c .before .before in
+    operandsFrom (own .before .before .before .before .before .args .q .now) (own .before .h .given .0 .0) (own .before .h .given .0 .1 .0)
+    ≡ placeFound (c .read-nodes .result)
+operands-are t c =
+    let own = c .before .before in
+    ap (λ k. nodesFrom k (own .before .h .given .0 .1 .0) (own .before .before .before .before .before .args .q .now))
+    (sym (c .before .node-operands .ensures)) ∙ sym (c .read-nodes .ensures)
+
 read-node-returns-2 : (t : ℕ) → read-node-lts.Need-returns-2 (read-node-calls t) (read-node-at t) read-node.Post
 read-node-returns-2 t c =
-    let s = c .before .before .before .before .before .before .before .before .before .args .q .now in
-    let head = c .before .before .before .before .before .h .given .0 .0 in
-    let own = c .before .before .before .before .before .h .given .0 .1 .0 in
-    let found : nodeHeadRead s ≡ got _ _ =
-    sym (c .before .before .before .before .before .before .before .read-head .ensures)
-    ∙ ap nodeFound (c .before .before .before .before .before .h .given .1) in
+    let nodes = c .before .before .before in
+    let s = nodes .before .before .before .before .before .before .before .args .q .now in
     let told = ap placeFound (c .before .enum-told2 .given .1) in
-    let bad = nodesAfter-fault s head own _ (sym (c .before .before .before .before-operands .ensures) ∙ told) in
-    ap fault (c .place-fault .ensures ∙ ap faultIn told) ∙ sym (operands-fault _ _ (nodesAfter s) (node-parts s) _ _ _ found bad)
-
-read-node-node-operands-requires : (t : ℕ) → read-node-lts.Need-node-operands-requires (read-node-calls t) (read-node-at t) read-node.Post
-read-node-node-operands-requires t c κs = search needs
-
-read-node-read-nodes-requires : (t : ℕ) → read-node-lts.Need-read-nodes-requires (read-node-calls t) (read-node-at t) read-node.Post
-read-node-read-nodes-requires t c κs =
-    let s = c .before .before .before .before .before .before .before .before .before .before .args .q .now in
-    let head = c .before .before .before .before .before .before .h .given .0 .0 in
-    let own = c .before .before .before .before .before .before .h .given .0 .1 .0 in
-    let h =
-    node-head-inside s (sym (c .before .before .before .before .before .before .before .before .read-head .ensures)
-    ∙ ap nodeFound (c .before .before .before .before .before .before .h .given .1)) in
-    let inside = before-inside s head own (h .1) in
-    let at =
-    ap placeOf (sym (c .before .before .before .before .before-operands .ensures) ∙ ap placeFound (c .before .before .b .given .1)) in
-    let n = c .node-operands .ensures in (
-      omega (arith, c .before .before .before .before .before .before .before .before .before .before .pre .0, n, h .2),
-      (omega (arith, h .0, inside, at), omega (arith, inside, at), omega (arith, n, h .2)),
-    )
-
-read-node-enum-known-e : (t : ℕ) → read-node-lts.Need-enum-known-e (read-node-calls t) (read-node-at t) read-node.Post
-read-node-enum-known-e t c = search needs
-
-read-node-enum-told-3 : (t : ℕ) → read-node-lts.Need-enum-told-3 (read-node-calls t) (read-node-at t) read-node.Post
-read-node-enum-told-3 t c = search needs
-
-read-node-place-fault-requires-2 : (t : ℕ) → read-node-lts.Need-place-fault-requires-2 (read-node-calls t) (read-node-at t) read-node.Post
-read-node-place-fault-requires-2 t c κs = search needs
+    ap fault (c .place-fault .ensures ∙ ap faultIn told)
+    ∙ sym (operands-fault _ _ (operandsFrom s) (node-parts s) _ _ _ (own-is t (nodes .before .before)) (operands-are t nodes ∙ told))
 
 read-node-returns-3 : (t : ℕ) → read-node-lts.Need-returns-3 (read-node-calls t) (read-node-at t) read-node.Post
 read-node-returns-3 t c =
-    let s =
-    c .before .before .before .before .before .before .before .before .before .before .before .before .before .before .args .q .now in
-    let head = c .before .before .before .before .before .before .before .before .before .before .h .given .0 .0 in
-    let own = c .before .before .before .before .before .before .before .before .before .before .h .given .0 .1 .0 in
-    let found : nodeHeadRead s ≡ got _ _ =
-    sym (c .before .before .before .before .before .before .before .before .before .before .before .before .read-head .ensures)
-    ∙ ap nodeFound (c .before .before .before .before .before .before .before .before .before .before .h .given .1) in
-    let at = c .before .before .before .before .before .before .b .given .0 .0 in
-    let begun =
-    nodesAfter-got s head own at (sym (c .before .before .before .before .before .before .before .before .before-operands .ensures)
-    ∙ ap placeFound (c .before .before .before .before .before .before .b .given .1)) in
-    let told = ap placeFound (c .before .enum-told3 .given .1) in
-    let bad =
-    begun ∙ ap (λ k. nodesFrom k at s) (sym (c .before .before .before .before .node-operands .ensures))
-    ∙ sym (c .before .before .before .read-nodes .ensures) ∙ told in
-    ap fault (c .place-fault2 .ensures ∙ ap faultIn told) ∙ sym (operands-fault _ _ (nodesAfter s) (node-parts s) _ _ _ found bad)
-
-read-node-returns-4 : (t : ℕ) → read-node-lts.Need-returns-4 (read-node-calls t) (read-node-at t) read-node.Post
-read-node-returns-4 t c =
-    let s =
-    c .before .before .before .before .before .before .before .before .before .before .before .before .before .before .args .q .now in
-    let head = c .before .before .before .before .before .before .before .before .before .before .h .given .0 .0 in
-    let own = c .before .before .before .before .before .before .before .before .before .before .h .given .0 .1 .0 in
-    let found : nodeHeadRead s ≡ got _ _ =
-    sym (c .before .before .before .before .before .before .before .before .before .before .before .before .read-head .ensures)
-    ∙ ap nodeFound (c .before .before .before .before .before .before .before .before .before .before .h .given .1) in
-    let at = c .before .before .before .before .before .before .b .given .0 .0 in
-    let begun =
-    nodesAfter-got s head own at (sym (c .before .before .before .before .before .before .before .before .before-operands .ensures)
-    ∙ ap placeFound (c .before .before .before .before .before .before .b .given .1)) in
+    let nodes = c .before .before .before in
+    let s = nodes .before .before .before .before .before .before .before .args .q .now in
     let told = ap placeFound (c .before .e .given .1) in
-    let good =
-    begun ∙ ap (λ k. nodesFrom k at s) (sym (c .before .before .before .before .node-operands .ensures))
-    ∙ sym (c .before .before .before .read-nodes .ensures) ∙ told in
-    sym (operands-got _ _ (nodesAfter s) (node-parts s) _ _ _ found good)
+    sym (operands-got _ _ (operandsFrom s) (node-parts s) _ _ _ (own-is t (nodes .before .before)) (operands-are t nodes ∙ told))
 
 read-nodes-returns : (t : ℕ) → read-nodes-lts.Need-returns (read-nodes-calls t) (read-nodes-at t) read-nodes.Post
 unfolding nodesFrom
@@ -256,22 +208,17 @@ pub +read-node+read-nodes-spec : {M : Type 1} → statement M
 +read-node+read-nodes-spec = close μ-read-node μ-read-nodes (λ t. read-node-lts.spec (read-node-calls t)
     (read-node-at t)
     read-node.Post
-    (read-node-read-head-requires t)
+    (read-node-read-own-requires t)
     (read-node-enum-known-h t)
     (read-node-enum-told t)
     (read-node-returns t)
-    (read-node-before-operands-requires t)
-    (read-node-enum-known-b t)
-    (read-node-enum-told-2 t)
-    (read-node-place-fault-requires t)
-    (read-node-returns-2 t)
     (read-node-node-operands-requires t)
     (read-node-read-nodes-requires t)
     (read-node-enum-known-e t)
-    (read-node-enum-told-3 t)
-    (read-node-place-fault-requires-2 t)
-    (read-node-returns-3 t)
-    (read-node-returns-4 t))
+    (read-node-enum-told-2 t)
+    (read-node-place-fault-requires t)
+    (read-node-returns-2 t)
+    (read-node-returns-3 t))
     λ t. read-nodes-lts.spec (read-nodes-calls t)
     (read-nodes-at t)
     read-nodes.Post
