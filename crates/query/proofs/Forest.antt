@@ -1,18 +1,16 @@
 -- Nodes one behind the other. A node that was read is its head, what stands before its operands, and its operands, read one behind the
--- other (`node-found`); so a walk from head to head passes every node in prefix order (`forest-step`). Assumes nothing.
+-- other (`node-found`); a query without a fault is one node (`query-reads`). Assumes nothing.
 use mathlib.Core.Path.{_≡_, refl, sym, ap, _∙_}
 use mathlib.Core.Bool.{Bool, true, false, _&&_}
-use mathlib.Core.List.{List, [], _∷_, _++_}
+use mathlib.Core.List.{List, [], _∷_}
 use Prim.Native.Nat.{ℕ, _+_, _/_, _%_, _≤_, _<_}
-use native.Mathlib.Nat.{add-assoc}
 use native.Mathlib.Omega.{arith}
-use borrow.Author.Tests.{ne-eqb}
+use borrow.Author.Tests.{eqb-true, ne-eqb}
 use lib.Dec.{eqb, leb}
-use lib.ListN.{length, drop, length-drop}
-use lib.Seq.{drop-drop}
+use lib.ListN.{length, drop}
 use Rattle.tsparql.specs.Query.{Pattern, Condition, Node, patternSet, join, leftJoin, union, filter, projectTrust, ensureTrust}
 use Rattle.tsparql.specs.Reading.{Read, got, fault, andThen, require, kindOf, lowOf, bits24, readPatterns, readCondition}
-use Rattle.tsparql.specs.Reading.{oneNode, twoNodes, afterCondition, boundedNode, nodeStep, readNode}
+use Rattle.tsparql.specs.Reading.{oneNode, twoNodes, afterCondition, boundedNode, nodeStep, readNode, readQuery, queryNode}
 use Rattle.tsparql.proofs.QuerySize.{conditionSize, nodeSize, nodeSize-positive}
 use Rattle.tsparql.proofs.ReaderSteps.{readNode-step}
 use Rattle.tsparql.proofs.WrittenRead.{ReadsCondition, readCondition-sound, ReadsNode}
@@ -24,6 +22,7 @@ use Rattle.query.specs.declared.Head.{Head}
 use Rattle.query.specs.declared.Head.the-variants as H
 use Rattle.query.specs.Answers.{nodeHead}
 use Rattle.query.specs.Parts.{conditionsFrom, nodeHeadRead, beforeOperands, ownRead}
+use Rattle.query.specs.Variables.{QuerySound}
 use Rattle.query.proofs.ReadLaws.{by-kind, fault-not-got}
 use Rattle.query.proofs.NodeParts.{one-condition}
 
@@ -245,8 +244,6 @@ node-found s x n e = node-found-step s x n (sym (readNode-step s) ∙ e)
 pub own-read : {s : List ℕ} {x : Node} {n : ℕ} → NodeFound s x n → ownRead s ≡ got (nodeHead x) (operandsAt x n)
 own-read f = rw (f .head-is, f .before-is)
 
--- ---- a walk from head to head
-
 -- its size is its next place
 pub read-size : (s : List ℕ) (x : Node) (n : ℕ) → readNode s ≡ got x n → n ≡ nodeSize x
 read-size s x n e = go (readNode s) e (readNode-sound s)
@@ -263,38 +260,17 @@ read-formed s x n e = go (readNode s) e (readNode-sound s)
     go (got y m) d h = let is : y ≡ x = cc in rw is at (h .0)
     go (fault p) d h = absurd (fault-not-got d)
 
-readsAll-shift : (s : List ℕ) (by at : ℕ) (xs : List Node) (end : ℕ) → ReadsAll (drop by s) at xs end → ReadsAll s (by + at) xs (by + end)
-readsAll-shift s by at [] end h = ap (λ n. by + n) h
-readsAll-shift s by at (x ∷ xs) end h =
-    (h .0, ap readNode (sym (drop-drop at by s)) ∙ h .1, rw (add-assoc by at (h .0)) (readsAll-shift s by (at + h .0) xs end (h .2)))
+-- ---- a whole query
 
-readsAll-append : (s : List ℕ) (at : ℕ) (xs ys : List Node) (mid end : ℕ) → ReadsAll s at xs mid → ReadsAll s mid ys end
-    → ReadsAll s at (xs ++ ys) end
-readsAll-append s at [] ys mid end h k = rw h k
-readsAll-append s at (x ∷ xs) ys mid end h k = (h .0, h .1, readsAll-append s (at + h .0) xs ys mid end (h .2) k)
-
--- the head of the first node, and then its operands and the nodes behind it
-pub forest-step : (s : List ℕ) (at : ℕ) (x : Node) (xs : List Node) (end : ℕ) (h : ReadsAll s at (x ∷ xs) end)
-    → NodeFound (drop at s) x (h .0) × ReadsAll s (at + operandsAt x (h .0)) (operandsIn x ++ xs) end
-forest-step s at x xs end h =
-    let f = node-found (drop at s) x (h .0) (h .1) in (
-      f,
-      readsAll-append s (at + operandsAt x (h .0)) (operandsIn x) xs (at + h .0) end
-          (readsAll-shift s at (operandsAt x (h .0)) (operandsIn x) (h .0) (f .operands-are)) (h .2),
-    )
-
--- at the end there is no node left
-pub forest-end : (s : List ℕ) (at : ℕ) (xs : List Node) → length s ≤ at → ReadsAll s at xs (length s) → xs ≡ []
-forest-end s at [] l h = refl
-forest-end s at (x ∷ xs) l h =
-    absurd (omega (
-      arith,
-      read-size (drop at s) x (h .0) (h .1),
-      nodeSize-positive x,
-      inside (readNode (drop at s)) (h .1) (readNode-sound (drop at s)),
-      length-drop at s,
-    ))
+-- a query without a fault is one node, up to its end
+pub query-reads : (s : List ℕ) → QuerySound s → ReadsAll s 0 (queryNode s ∷ []) (length s)
+unfolding readQuery queryNode
+query-reads s h = go (readNode s) refl
   where
-    inside : (r : Read Node) → r ≡ got x (h .0) → ReadsNode (drop at s) r → h .0 ≤ length (drop at s)
-    inside (got y m) d w = let k : m ≡ h .0 = cc in omega (arith, w .1 .inside)
-    inside (fault p) d w = absurd (fault-not-got d)
+    go : (r : Read Node) → readNode s ≡ r → ReadsAll s 0 (queryNode s ∷ []) (length s)
+    go (got q n) e = end (eqb (0 + n) (length s)) refl
+      where
+        end : (b : Bool) → eqb (0 + n) (length s) ≡ b → ReadsAll s 0 (queryNode s ∷ []) (length s)
+        end true d = (n, e ∙ rw (e, d), eqb-true (0 + n) (length s) d)
+        end false d = absurd (rw (e, d) at h)
+    go (fault p) e = absurd (rw e at h)

@@ -5,6 +5,4 @@ pub mod PatternParts
 pub mod NodeParts
 pub mod Forest
 pub mod WriterLaws
-pub mod Uses
 pub mod Operands
-pub mod Walk

@@ -11,7 +11,7 @@ use Rattle.tsparql.proofs.QuerySize.{nodeSize}
 use Rattle.query.specs.declared.Head.{Head}
 use Rattle.query.specs.declared.Head.the-variants as H
 use Rattle.query.specs.Answers.{nodeHead}
-use Rattle.query.specs.Parts.{mapRead, ownRead, nodeOperands}
+use Rattle.query.specs.Parts.{ownRead, nodeOperands}
 use Rattle.query.specs.Variables.{NodeSound, nodeOf}
 use Rattle.query.proofs.ReadLaws.{placeOf, fault-not-got}
 use Rattle.query.proofs.NodeParts.{node-inside}

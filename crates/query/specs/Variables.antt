@@ -1,29 +1,11 @@
--- The variables of a query by its parts, for refusal 7: which variable stands where, how a node itself uses a variable, the next node in
--- prefix order; and the answers of the check of a query. Assumes nothing.
-use mathlib.Core.Path.{_≡_}
-use mathlib.Core.Bool.{Bool, true, false, _&&_, cond}
-use mathlib.Core.List.{List, [], map}
+-- What a part of a query starts with, where it has no fault: patterns, or a node; the next node in prefix order; a whole query.
+-- Assumes nothing.
+use mathlib.Core.List.{List, []}
 use Prim.Native.Nat.{ℕ}
-use lib.Dec.{eqb, ltb}
 use lib.ListN.{drop}
-use Rattle.tsparql.specs.Lists.{concatMap}
-use Rattle.tsparql.specs.Query.{Pattern, Node, patternSet, join, leftJoin, union, filter, projectTrust, ensureTrust}
-use Rattle.tsparql.specs.Reading.{Read, got, fault, readPatterns, readNode, readQuery, foundNode, queryNode}
-use Rattle.tsparql.specs.Check.{Refusal, refuse, noRefusal, passes, queryRefusal, variablesOf, patternVariables, occurrences, clashing}
-use Rattle.tsparql.specs.Check.{projectedVariable, trustProjections}
-use Rattle.query.specs.declared.Head.{Head}
-use Rattle.query.specs.declared.Head.the-variants as H
-use Rattle.query.specs.declared.Clash.{Clash}
-use Rattle.query.specs.declared.Clash.the-variants as C
-use Rattle.query.specs.declared.QueryAnswer.{QueryAnswer}
-use Rattle.query.specs.declared.QueryAnswer.the-variants as A
-use Rattle.query.specs.Parts.{placed, nodeHeadRead, ownRead}
-
--- ---- where a variable stands
-
--- the variable is in the list
-abbrev pub has : ℕ → List ℕ → Bool
-has v vs = ltb 0 (occurrences v vs)
+use Rattle.tsparql.specs.Query.{Pattern, Node}
+use Rattle.tsparql.specs.Reading.{Read, got, fault, readPatterns, readNode, readQuery, foundNode}
+use Rattle.query.specs.Parts.{placed, ownRead}
 
 -- something was found
 abbrev pub IsGot : {A : Type 0} → Read A → Type 0
@@ -39,12 +21,6 @@ abbrev pub foundPatterns : Read (List Pattern) → List Pattern
 foundPatterns (got ps n) = ps
 foundPatterns (fault p) = []
 
--- the variables of n patterns from a place on
-abbrev pub patternsOf : ℕ → ℕ → List ℕ → List ℕ
-patternsOf n at s = concatMap variablesOf (foundPatterns (readPatterns n (drop at s)))
-
--- ---- nodes
-
 -- the part starts with a node
 abbrev pub NodeSound : List ℕ → Type 0
 NodeSound s = IsGot (readNode s)
@@ -53,72 +29,10 @@ NodeSound s = IsGot (readNode s)
 abbrev pub nodeOf : List ℕ → Node
 nodeOf s = foundNode (readNode s)
 
--- how a node itself uses a variable: 2 in a pattern, 1 to project its trust
-abbrev pub ownUses : ℕ → Node → ℕ
-ownUses v (patternSet ps) = cond (has v (concatMap variablesOf ps)) 2 0
-ownUses v (join x y) = 0
-ownUses v (leftJoin c x y) = 0
-ownUses v (union x y) = 0
-ownUses v (filter c x) = 0
-ownUses v (projectTrust w x) = cond (eqb w v) 1 0
-ownUses v (ensureTrust l u x) = 0
-
 -- the place behind a head and its patterns or condition
 abbrev pub nextNode : List ℕ → Read (Unit {0})
 nextNode s = placed (ownRead s)
 
--- the variable of a project trust head, or 16
-abbrev pub headVariable : Head → ℕ
-headVariable (H.PatternSet n) = 16
-headVariable H.Join = 16
-headVariable H.LeftJoin = 16
-headVariable H.Union = 16
-headVariable H.Filter = 16
-headVariable (H.ProjectTrust v) = v
-headVariable (H.EnsureTrust l u) = 16
-
--- the same where a head was found
-abbrev pub foundVariable : Read Head → ℕ
-foundVariable (got h own) = headVariable h
-foundVariable (fault p) = 16
-
--- the variable that the node of a part projects its trust to, or 16
-abbrev pub projectedIn : List ℕ → ℕ
-projectedIn s = foundVariable (nodeHeadRead s)
-
--- ---- queries
-
 -- the query has no fault
 abbrev pub QuerySound : List ℕ → Type 0
 QuerySound s = IsGot (readQuery s)
-
--- the variable clashes in the query
-abbrev pub clashesWith : List ℕ → ℕ → Bool
-clashesWith s v =
-    clashing (patternVariables (queryNode s)) (map projectedVariable (trustProjections 0 (queryNode s))) v
-
--- the node at a place projects its trust to a variable that clashes
-abbrev pub clashAt : List ℕ → ℕ → Bool
-clashAt s at = let v = projectedIn (drop at s) in ltb v 16 && clashesWith s v
-
--- 7 at the clash
-abbrev pub clashIn : Clash → Refusal
-clashIn C.Nowhere = noRefusal
-clashIn (C.At p) = refuse 7 p
-
--- ---- the answer of the check
-
--- the answer is that the query passes
-abbrev pub soundIn : QueryAnswer → Bool
-soundIn A.Sound = true
-soundIn (A.Refused n p) = false
-
--- the refusal that the answer names
-abbrev pub refusalIn : QueryAnswer → Refusal
-refusalIn A.Sound = noRefusal
-refusalIn (A.Refused n p) = refuse n p
-
--- the answer names the query's refusal, and is sound exactly where there is none
-pub record Checked (limit : ℕ) (s : List ℕ) (r : QueryAnswer) : Type 0 where
-  pub sound : soundIn r ≡ passes (queryRefusal limit s)
-  pub refusal : refusalIn r ≡ queryRefusal limit s

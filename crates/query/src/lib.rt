@@ -1,5 +1,5 @@
 // Readers of a query: pattern, condition, node. A reader takes the part of the query that starts at what it reads, and answers it with
-// the next place, or the place of the fault, both counted from the part's start.
+// the next place, or the place of the fault, both counted from the part's start. Writers put a head or a pattern at the output's front.
 ghost use mathlib.Core.Path.{_≡_};
 ghost use Prim.Native.Nat.{_+_, _≤_, _<_};
 ghost use lib.ListN.{length};
@@ -12,12 +12,7 @@ ghost use Rattle.query.specs.Answers.{patternFound, conditionFound, cond
 ghost use Rattle.query.specs.Parts.{secondOf, termOf, pairHead, termHead, connective, conditionHeadRead, conditionOperands};
 ghost use Rattle.query.specs.Parts.{mapRead, conditionsFrom, boundsHead, plainHead, nodeHeadRead, nodeOperands, patternsFrom};
 ghost use Rattle.query.specs.Parts.{beforeOperands, ownRead, nodesFrom};
-ghost use Rattle.tsparql.specs.Reading.{slotOf, queryNode};
-ghost use Rattle.tsparql.specs.Check.{slotVariables, variablesOf, variablesRefusal};
-ghost use Rattle.query.specs.Answers.{patternIn};
-ghost use Rattle.query.specs.Variables.{has, PatternsSound, patternsOf, NodeSound};
-ghost use Rattle.query.specs.Variables.{nodeOf, ownUses, nextNode, projectedIn, QuerySound};
-ghost use Rattle.query.specs.Variables.{clashesWith, clashAt, clashIn, Checked};
+ghost use Rattle.query.specs.Variables.{nextNode};
 
 // A pattern by its slots' 24 bits: below 1,048,576 a term, else 1,048,576 and a variable.
 pub struct Pattern {
@@ -71,18 +66,6 @@ pub enum NodeRead {
 pub enum Place {
     At(usize),
     Fault(usize),
-}
-
-// A clash of variables, at a project trust node.
-pub enum Clash {
-    Nowhere,
-    At(usize),
-}
-
-// Whether a query is sound, or its refusal.
-pub enum QueryAnswer {
-    Sound,
-    Refused { number: u32, place: usize },
 }
 
 fn wide(x: u8) -> u32
@@ -235,7 +218,7 @@ pub fn read_condition_head(q: &[u8]) -> ConditionRead
 }
 
 // How many conditions are the operands of a condition.
-fn condition_operands(h: ConditionHead) -> u8
+pub fn condition_operands(h: ConditionHead) -> u8
     ensures { λ r. ⌜ r ≡ conditionOperands h ⌝ }
 {
     match h {
@@ -461,6 +444,17 @@ fn read_nodes(q: &[u8], at: usize, n: u8) -> Place
     read_nodes(q, at + k, n - 1)
 }
 
+// The place of the next node in prefix order, or that of a fault before it.
+pub fn next_node(q: &[u8]) -> Place
+    ensures { λ r. ⌜ placeFound r ≡ nextNode (now (q .entry)) ⌝ }
+{
+    let h = read_own(q);
+    let NodeRead::Node(_, at) = h else {
+        return Place::Fault(node_fault(h));
+    };
+    Place::At(at)
+}
+
 // ---- writers
 
 // Three bytes of 24 bits from a place on.
@@ -592,185 +586,4 @@ pub fn write_pattern(p: Pattern, out: &mut [u8]) -> usize
         }
     }
     0
-}
-
-// ---- the variables of a query
-
-// The variable stands at the slot.
-fn slot_has(x: u32, v: u8) -> bool
-    ensures { λ r. ⌜ r ≡ has v (slotVariables (slotOf x)) ⌝ }
-{
-    if x < 1048576 {
-        false
-    } else {
-        let w = x % 1048576;
-        w == wide(v)
-    }
-}
-
-// The variable stands in the pattern.
-fn pattern_has(p: Pattern, v: u8) -> bool
-    ensures { λ r. ⌜ r ≡ has v (variablesOf (patternIn p)) ⌝ }
-{
-    if slot_has(p.subject, v) {
-        return true;
-    }
-    if slot_has(p.predicate, v) {
-        return true;
-    }
-    slot_has(p.object, v)
-}
-
-// The variable stands in one of n patterns from a place on.
-fn patterns_have(q: &[u8], at: usize, n: u8, v: u8) -> bool
-    requires { ⌜ (at ≤ length (now q)) × PatternsSound n at (now q) ⌝ }
-    ensures { λ r. ⌜ r ≡ has v (patternsOf n at (now (q .entry))) ⌝ }
-{
-    let mut p = at;
-    let mut left = n;
-    while 0 < left {
-        let r = read_pattern(&q[p..]);
-        let PatternRead::Found(x, k) = r else {
-            return false;
-        };
-        if pattern_has(x, v) {
-            return true;
-        }
-        p += k;
-        left -= 1;
-    }
-    false
-}
-
-// How a node itself uses a variable: 2 in a pattern, 1 to project its trust, else 0.
-fn own_uses(q: &[u8], v: u8) -> u32
-    requires { ⌜ NodeSound (now q) ⌝ }
-    ensures { λ r. ⌜ r ≡ ownUses v (nodeOf (now (q .entry))) ⌝ }
-{
-    let h = read_head(q);
-    let NodeRead::Node(head, own) = h else {
-        return 0;
-    };
-    match head {
-        Head::PatternSet(n) => if patterns_have(q, own, n, v) { 2 } else { 0 },
-        Head::Join => 0,
-        Head::LeftJoin => 0,
-        Head::Union => 0,
-        Head::Filter => 0,
-        Head::ProjectTrust(w) => if w == v { 1 } else { 0 },
-        Head::EnsureTrust(_, _) => 0,
-    }
-}
-
-// The place of the next node in prefix order, or that of a fault before it.
-pub fn next_node(q: &[u8]) -> Place
-    ensures { λ r. ⌜ placeFound r ≡ nextNode (now (q .entry)) ⌝ }
-{
-    let h = read_own(q);
-    let NodeRead::Node(_, at) = h else {
-        return Place::Fault(node_fault(h));
-    };
-    Place::At(at)
-}
-
-// The variable that a node projects its trust to, or 16 where it is another node.
-fn projected(q: &[u8]) -> u8
-    ensures { λ r. ⌜ r ≡ projectedIn (now (q .entry)) ⌝ }
-{
-    let h = read_head(q);
-    let NodeRead::Node(head, _) = h else {
-        return 16;
-    };
-    match head {
-        Head::PatternSet(_) => 16,
-        Head::Join => 16,
-        Head::LeftJoin => 16,
-        Head::Union => 16,
-        Head::Filter => 16,
-        Head::ProjectTrust(w) => w,
-        Head::EnsureTrust(_, _) => 16,
-    }
-}
-
-// The variable stands in a pattern of the query, or in two of its project trust nodes.
-fn clashes(q: &[u8], v: u8) -> bool
-    requires { ⌜ QuerySound (now q) ⌝ }
-    ensures { λ r. ⌜ r ≡ clashesWith (now (q .entry)) v ⌝ }
-{
-    let mut at = 0;
-    let mut seen = 0;
-    while at < q.len() {
-        seen += own_uses(&q[at..], v);
-        if 2 <= seen {
-            return true;
-        }
-        let n = next_node(&q[at..]);
-        let Place::At(k) = n else {
-            return false;
-        };
-        at += k;
-    }
-    false
-}
-
-// The node at a place projects its trust to a variable that clashes.
-fn clash_at(q: &[u8], at: usize) -> bool
-    requires { ⌜ QuerySound (now q) × (at ≤ length (now q)) ⌝ }
-    ensures { λ r. ⌜ r ≡ clashAt (now (q .entry)) at ⌝ }
-{
-    let v = projected(&q[at..]);
-    if v < 16 { clashes(q, v) } else { false }
-}
-
-// The first project trust node whose variable clashes.
-fn first_clash(q: &[u8]) -> Clash
-    requires { ⌜ QuerySound (now q) ⌝ }
-    ensures { λ r. ⌜ clashIn r ≡ variablesRefusal (queryNode (now (q .entry))) ⌝ }
-{
-    let mut at = 0;
-    while at < q.len() {
-        if clash_at(q, at) {
-            return Clash::At(at);
-        }
-        let n = next_node(&q[at..]);
-        let Place::At(k) = n else {
-            return Clash::Nowhere;
-        };
-        at += k;
-    }
-    Clash::Nowhere
-}
-
-// The check of a query under a limit: refusals 5 to 7.
-pub fn check_query(q: &[u8], limit: usize) -> QueryAnswer
-    ensures { λ r. ⌜ Checked limit (now (q .entry)) r ⌝ }
-{
-    if limit < q.len() {
-        return QueryAnswer::Refused {
-            number: 5,
-            place: 0,
-        };
-    }
-    let r = read_node(q);
-    let NodeRead::Node(_, next) = r else {
-        return QueryAnswer::Refused {
-            number: 6,
-            place: node_fault(r),
-        };
-    };
-    if next == q.len() {
-        let clash = first_clash(q);
-        let Clash::At(p) = clash else {
-            return QueryAnswer::Sound;
-        };
-        QueryAnswer::Refused {
-            number: 7,
-            place: p,
-        }
-    } else {
-        QueryAnswer::Refused {
-            number: 6,
-            place: next,
-        }
-    }
 }

@@ -7,8 +7,8 @@ use Rattle.tsparql.specs.Check.{refuse, check}
 use Rattle.table.specs.Answers as T
 use Rattle.table.specs.declared.View.{View}
 use Rattle.table.specs.declared.TableAnswer.the-variants.{Sound, Refused}
-use Rattle.query.specs.Variables as Q
-use Rattle.query.specs.declared.QueryAnswer.{QueryAnswer}
+use Rattle.scope.specs.Variables as Q
+use Rattle.scope.specs.declared.QueryAnswer.{QueryAnswer}
 
 pub table-refuses : (t s : List ℕ) {n p : ℕ} → T.Checked t (Refused n p) → refuse n p ≡ check t s
 unfolding check

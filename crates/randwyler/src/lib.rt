@@ -3,10 +3,10 @@ ghost use mathlib.Core.Path.{_≡_};
 ghost use Rattle.tsparql.specs.Check.{check};
 ghost use Rattle.tsparql.specs.Rewrite as D;
 ghost use Rattle.randwyler.specs.Answers.{refusalIn, rewrittenIn};
-use query::QueryAnswer;
-use query::check_query;
 use rewriting::RewriteAnswer;
 use rewriting::rewrite;
+use scope::QueryAnswer;
+use scope::check_query;
 use table::TableAnswer;
 use table::check_table;
 

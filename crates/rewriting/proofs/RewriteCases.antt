@@ -14,12 +14,13 @@ use Rattle.tsparql.specs.Rewrite.{rewriteLimit, rewriting, rewriteRefusal, wrot
 use Rattle.tsparql.proofs.QueryLaws.{query-checked}
 use Rattle.tsparql.proofs.RefusalLaws.{orElse-second}
 use Rattle.tsparql.proofs.RewriteLaws.{rewrite-passes}
-use Rattle.query.specs.declared.QueryAnswer.{QueryAnswer}
-use Rattle.query.specs.declared.QueryAnswer.the-variants as A
-use Rattle.query.specs.Variables.{NodeSound, nodeOf, QuerySound, soundIn, refusalIn, Checked}
+use Rattle.query.specs.Variables.{NodeSound, nodeOf}
 use Rattle.query.specs.Writers.{Wrote}
 use Rattle.query.proofs.ReadLaws.{fault-not-got}
-use Rattle.query.proofs.Walk.{query-reads}
+use Rattle.query.proofs.Forest.{query-reads}
+use Rattle.scope.specs.declared.QueryAnswer.{QueryAnswer}
+use Rattle.scope.specs.declared.QueryAnswer.the-variants as A
+use Rattle.scope.specs.Variables.{soundIn, refusalIn, Checked}
 use Rattle.rewriting.specs.declared.Pushed.{Pushed}
 use Rattle.rewriting.specs.declared.Pushed.the-variants as P
 use Rattle.rewriting.specs.Answers.{Pushes, pushedIn, rewrittenIn, answerOf}

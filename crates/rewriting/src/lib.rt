@@ -16,12 +16,12 @@ ghost use Rattle.rewriting.specs.Answers.{pushedIn, placeIn, placedBehin
 use bytes::copy;
 use query::Head;
 use query::NodeRead;
-use query::QueryAnswer;
-use query::check_query;
 use query::node_fault;
 use query::node_operands;
 use query::read_own;
 use query::write_head;
+use scope::QueryAnswer;
+use scope::check_query;
 
 // A bound on trust carried down from the root, plus 1000: none, or from l to u.
 enum Bound {

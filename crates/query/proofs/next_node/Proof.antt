@@ -1,5 +1,5 @@
 -- The place of the node's own part. Assumes nothing.
-use mathlib.Core.Path.{_≡_, sym, ap, _∙_}
+use mathlib.Core.Path.{sym, ap, _∙_}
 use Rattle.tsparql.specs.Reading.{fault}
 use Rattle.query.specs.Answers.{nodeFound, faultIn}
 use Rattle.query.specs.Parts.{placed}

@@ -5,7 +5,6 @@ use Rattle.tsparql.specs.Writing.{threeBytes}
 use borrow.Author.Needs.{needs}
 use Rattle.query.proofs.put_slots.Statement.{statement}
 use Rattle.query.proofs.put_slots.Tie as tie
-use Rattle.query.proofs.put_bits.Reads as put-bits-reads
 
 put-bits-requires : tie.Need-put-bits-requires
 put-bits-requires c κs = search needs

@@ -12,7 +12,6 @@ use Rattle.query.proofs.WriterLaws.{stored-if, misfits-if, nothing-wrot
 use borrow.Author.Needs.{needs}
 use Rattle.query.proofs.write_bounds.Statement.{statement}
 use Rattle.query.proofs.write_bounds.Tie as tie
-use Rattle.query.proofs.put_bits.Reads as put-bits-reads
 
 slice-write-out : tie.Need-slice-write-out
 slice-write-out c = search needs

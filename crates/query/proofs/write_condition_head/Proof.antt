@@ -2,9 +2,6 @@
 use borrow.Author.Needs.{needs}
 use Rattle.query.proofs.write_condition_head.Statement.{statement}
 use Rattle.query.proofs.write_condition_head.Tie as tie
-use Rattle.query.proofs.write_first.Reads as write-first-reads
-use Rattle.query.proofs.write_pair.Reads as write-pair-reads
-use Rattle.query.proofs.write_term.Reads as write-term-reads
 
 enum-known-h : tie.Need-enum-known-h
 enum-known-h c = search needs

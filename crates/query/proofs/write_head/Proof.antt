@@ -2,8 +2,6 @@
 use borrow.Author.Needs.{needs}
 use Rattle.query.proofs.write_head.Statement.{statement}
 use Rattle.query.proofs.write_head.Tie as tie
-use Rattle.query.proofs.write_bounds.Reads as write-bounds-reads
-use Rattle.query.proofs.write_first.Reads as write-first-reads
 
 enum-known-h : tie.Need-enum-known-h
 enum-known-h c = search needs

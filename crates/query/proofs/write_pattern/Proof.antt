@@ -9,8 +9,6 @@ use Rattle.query.proofs.WriterLaws.{stored, misfits, nothing-wrote, and
 use borrow.Author.Needs.{needs}
 use Rattle.query.proofs.write_pattern.Statement.{statement}
 use Rattle.query.proofs.write_pattern.Tie as tie
-use Rattle.query.proofs.put_slots.Reads as put-slots-reads
-use Rattle.query.proofs.slot_sound.Reads as slot-sound-reads
 
 slot-sound-requires : tie.Need-slot-sound-requires
 slot-sound-requires c κs = search needs

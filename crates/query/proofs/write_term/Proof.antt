@@ -11,8 +11,6 @@ use Rattle.query.proofs.WriterLaws.{stored-if, misfits-if, nothing-wrot
 use borrow.Author.Needs.{needs}
 use Rattle.query.proofs.write_term.Statement.{statement}
 use Rattle.query.proofs.write_term.Tie as tie
-use Rattle.query.proofs.put_bits.Reads as put-bits-reads
-use Rattle.query.proofs.term_sound.Reads as term-sound-reads
 
 term-sound-requires : tie.Need-term-sound-requires
 term-sound-requires c κs = search needs

@@ -13,7 +13,7 @@ use Rattle.rewriting.proofs.RewriteCases.{query-refused, query-passes, 
 use borrow.Author.Needs.{needs}
 use Rattle.rewriting.proofs.rewrite.Statement.{statement}
 use Rattle.rewriting.proofs.rewrite.Tie as tie
-use Rattle.query.proofs.check_query.Reads as check-query-reads
+use Rattle.scope.proofs.check_query.Reads as check-query-reads
 use Rattle.rewriting.proofs.answer_of.Reads as answer-of-reads
 use Rattle.rewriting.proofs.push_node.Reads as push-node-reads
 use Rattle.rewriting.proofs.push_size.Reads as push-size-reads

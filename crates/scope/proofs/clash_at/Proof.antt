@@ -3,11 +3,11 @@ use mathlib.Core.Path.{_≡_, sym, _∙_}
 use native.Mathlib.Omega.{arith}
 use borrow.Author.Tests.{lt-ltb, le-ltb}
 use lib.ListN.{drop}
-use Rattle.query.specs.Variables.{projectedIn}
+use Rattle.scope.specs.Variables.{projectedIn}
 use Rattle.query.proofs.ReadLaws.{on-part}
 use borrow.Author.Needs.{needs}
-use Rattle.query.proofs.clash_at.Statement.{statement}
-use Rattle.query.proofs.clash_at.Tie as tie
+use Rattle.scope.proofs.clash_at.Statement.{statement}
+use Rattle.scope.proofs.clash_at.Tie as tie
 
 sub-projected : tie.Need-sub-projected
 sub-projected c = search needs

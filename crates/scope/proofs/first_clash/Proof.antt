@@ -5,12 +5,12 @@ use lib.ListN.{drop, length}
 use Prim.Native.Nat.{_+_, _≤_, _-_}
 use Rattle.tsparql.specs.Reading.{got}
 use borrow.Author.Needs.{needs}
 use Rattle.query.specs.Answers.{placeFound}
 use Rattle.query.specs.Variables.{nextNode}
 use Rattle.query.proofs.ReadLaws.{on-part}
-use Rattle.query.proofs.Walk.{clash-start, clash-is, next-found, next-inside, clash-next, clash-none, ClashLeft}
-use Rattle.query.proofs.first_clash.Statement.{statement}
-use Rattle.query.proofs.first_clash.Tie as tie
+use Rattle.scope.proofs.Walk.{clash-start, clash-is, next-found, next-inside, clash-next, clash-none, ClashLeft}
+use Rattle.scope.proofs.first_clash.Statement.{statement}
+use Rattle.scope.proofs.first_clash.Tie as tie
 
 abbrev Inv-loop : tie.InvT-loop
 Inv-loop q at₀ at = ClashLeft q at

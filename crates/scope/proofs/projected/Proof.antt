@@ -1,11 +1,11 @@
 -- By the head. Assumes nothing.
 use mathlib.Core.Path.{_≡_, sym, ap, _∙_}
 use Rattle.query.specs.Answers.{nodeFound}
-use Rattle.query.specs.Variables.{headVariable, foundVariable, projectedIn}
+use Rattle.scope.specs.Variables.{headVariable, foundVariable, projectedIn}
 use Rattle.query.specs.declared.Head.{Head}
 use borrow.Author.Needs.{needs}
-use Rattle.query.proofs.projected.Statement.{statement}
-use Rattle.query.proofs.projected.Tie as tie
+use Rattle.scope.proofs.projected.Statement.{statement}
+use Rattle.scope.proofs.projected.Tie as tie
 
 read-head-requires : tie.Need-read-head-requires
 read-head-requires c κs = search needs

@@ -2,15 +2,15 @@
 use mathlib.Core.Path.{_≡_, refl, sym, ap, _∙_}
 use native.Mathlib.Omega.{arith}
 use Rattle.tsparql.specs.Reading.{readPattern}
 use Rattle.query.specs.Answers.{patternFound}
 use Rattle.query.proofs.ReadLaws.{on-part, placeOf}
 use Rattle.query.proofs.PatternParts.{pattern-part}
 use borrow.Author.Needs.{needs}
-use Rattle.query.proofs.Walk.{have-none, have-fault, have-here, have-next, HaveLeft}
+use Rattle.scope.proofs.Patterns.{have-none, have-fault, have-here, have-next, HaveLeft}
 use lib.ListN.{length, drop}
 use Prim.Native.Nat.{_+_, _≤_}
-use Rattle.query.proofs.patterns_have.Statement.{statement}
-use Rattle.query.proofs.patterns_have.Tie as tie
+use Rattle.scope.proofs.patterns_have.Statement.{statement}
+use Rattle.scope.proofs.patterns_have.Tie as tie
 
 abbrev Inv-loop : tie.InvT-loop
 Inv-loop q at n v p₀ left₀ p left = HaveLeft v q n at left p × (p ≤ length q)

@@ -3,13 +3,13 @@ use mathlib.Core.Path.{_≡_, sym, ap, _∙_}
 use native.Mathlib.Omega.{arith}
 use Rattle.tsparql.specs.Query.{Node}
 use Rattle.tsparql.specs.Reading.{got, fault, readNode}
 use Rattle.query.specs.Answers.{nodeFound, faultIn}
-use Rattle.query.specs.declared.Clash.the-variants as C
-use Rattle.query.specs.Variables.{clashIn}
-use Rattle.query.proofs.Walk.{head-node, long-checked, fault-checked, surplus-checked, whole-sound, whole-checked}
+use Rattle.scope.specs.declared.Clash.the-variants as C
+use Rattle.scope.specs.Variables.{clashIn}
+use Rattle.scope.proofs.Checks.{head-node, long-checked, fault-checked, surplus-checked, whole-sound, whole-checked}
 use borrow.Author.Needs.{needs}
-use Rattle.query.proofs.check_query.Statement.{statement}
-use Rattle.query.proofs.check_query.Tie as tie
+use Rattle.scope.proofs.check_query.Statement.{statement}
+use Rattle.scope.proofs.check_query.Tie as tie
 
 returns : tie.Need-returns
 returns c = long-checked (c .before .before .args .limit) (c .before .before .args .q .now) (omega arith)

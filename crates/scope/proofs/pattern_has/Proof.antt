@@ -1,10 +1,10 @@
 -- Slot by slot. Assumes nothing.
 use mathlib.Core.Path.{sym, _∙_}
 use Rattle.query.specs.Answers.{patternIn}
-use Rattle.query.proofs.Walk.{pattern-slots}
+use Rattle.scope.proofs.Patterns.{pattern-slots}
 use borrow.Author.Needs.{needs}
-use Rattle.query.proofs.pattern_has.Statement.{statement}
-use Rattle.query.proofs.pattern_has.Tie as tie
+use Rattle.scope.proofs.pattern_has.Statement.{statement}
+use Rattle.scope.proofs.pattern_has.Tie as tie
 
 slot-has-requires : tie.Need-slot-has-requires
 slot-has-requires c κs = search needs

@@ -17,8 +17,8 @@ use Rattle.tsparql.proofs.ListLaws.{keepIf-append}
 use Rattle.tsparql.proofs.PushQuery.{projectVariables, trustProjections-variables}
 use Rattle.tsparql.proofs.QuerySize.{conditionSize, nodeSize, nodeSize-join, nodeSize-leftJoin, nodeSize-union, nodeSize-filter}
 use Rattle.tsparql.proofs.QuerySize.{nodeSize-projectTrust, nodeSize-ensureTrust}
-use Rattle.query.specs.Variables.{ownUses}
 use Rattle.query.proofs.Forest.{operandsIn, operandsAt}
+use Rattle.scope.specs.Variables.{ownUses}
 
 -- ---- uses
 

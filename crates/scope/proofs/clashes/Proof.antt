@@ -6,13 +6,14 @@ use lib.ListN.{drop, length}
 use Prim.Native.Nat.{_+_, _≤_, _-_}
 use Rattle.tsparql.specs.Reading.{got}
 use borrow.Author.Needs.{needs}
 use Rattle.query.specs.Answers.{placeFound}
-use Rattle.query.specs.Variables.{nodeOf, ownUses, nextNode}
+use Rattle.query.specs.Variables.{nodeOf, nextNode}
+use Rattle.scope.specs.Variables.{ownUses}
 use Rattle.query.proofs.ReadLaws.{part-drop, on-part}
-use Rattle.query.proofs.Walk.{uses-start, uses-sound, uses-here, next-found, next-inside, uses-next, uses-end, ownUses-small}
-use Rattle.query.proofs.Walk.{UsesLeft}
-use Rattle.query.proofs.clashes.Statement.{statement}
-use Rattle.query.proofs.clashes.Tie as tie
+use Rattle.scope.proofs.Walk.{uses-start, uses-sound, uses-here, next-found, next-inside, uses-next, uses-end, ownUses-small}
+use Rattle.scope.proofs.Walk.{UsesLeft}
+use Rattle.scope.proofs.clashes.Statement.{statement}
+use Rattle.scope.proofs.clashes.Tie as tie
 
 abbrev Inv-loop : tie.InvT-loop
 Inv-loop q v at₀ seen₀ at seen = UsesLeft v q at seen

@@ -1,121 +1,71 @@
--- What the loops over patterns and nodes keep, and their steps: the variables of the patterns left (`HaveLeft`), the uses of the nodes
--- left (`UsesLeft`), the first clash among them (`ClashLeft`); and the check of a query by its parts. Assumes nothing.
+-- A walk from head to head passes every node in prefix order (`forest-step`). What the loops over nodes keep, and their steps: the uses of
+-- the nodes left (`UsesLeft`), the first clash among them (`ClashLeft`). Assumes nothing.
 use mathlib.Core.Path.{_≡_, refl, sym, ap, _∙_, subst}
-use mathlib.Core.Bool.{Bool, true, false, _&&_, _||_, cond}
+use mathlib.Core.Bool.{Bool, true, false, _&&_, cond}
 use mathlib.Core.List.{List, [], _∷_, _++_, append-nil}
-use Prim.Native.Nat.{ℕ, zero, suc, _+_, _-_, _%_, _≤_, _<_}
-use native.Mathlib.Nat.{zero-add}
+use Prim.Native.Nat.{ℕ, _+_, _≤_, _<_}
+use native.Mathlib.Nat.{add-assoc}
 use native.Mathlib.Omega.{arith}
-use borrow.Author.Tests.{ltb-true, ltb-false, lt-ltb, le-ltb, eqb-true, eqb-false, eq-eqb, ne-eqb}
+use borrow.Author.Tests.{ltb-true, ltb-false, lt-ltb, le-ltb}
 use lib.Dec.{eqb, ltb}
-use lib.ListN.{length, drop}
+use lib.ListN.{length, drop, length-drop}
 use lib.Seq.{drop-drop}
 use Rattle.tsparql.specs.Lists.{keepIf, concatMap}
-use Rattle.tsparql.specs.Query.{Pattern, Node, patternSet, join, leftJoin, union, filter, projectTrust, ensureTrust}
-use Rattle.tsparql.specs.Reading.{Read, got, fault, andThen, slotOf, readPattern, readPatterns, readNode, readQuery, queryNode}
+use Rattle.tsparql.specs.Query.{Node, patternSet, join, leftJoin, union, filter, projectTrust, ensureTrust}
+use Rattle.tsparql.specs.Reading.{Read, got, fault, readNode, queryNode}
 use Rattle.tsparql.specs.WellFormed.{NodeFormed}
-use Rattle.tsparql.specs.Check.{slotVariables, variablesOf, occurrences, refuse, noRefusal, clashes, firstClash, trustProjections}
-use Rattle.tsparql.specs.Check.{variablesRefusal, queryRefusal}
-use Rattle.tsparql.proofs.QuerySize.{nodeSize}
+use Rattle.tsparql.specs.Check.{variablesOf, refuse, noRefusal, clashes, firstClash, trustProjections, variablesRefusal}
+use Rattle.tsparql.proofs.QuerySize.{nodeSize, nodeSize-positive}
 use Rattle.tsparql.proofs.WrittenRead.{ReadsNode, readNode-sound}
 use Rattle.query.specs.Answers.{nodeHead}
 use Rattle.query.specs.declared.Head.{Head}
 use Rattle.query.specs.declared.Head.the-variants as H
-use Rattle.query.specs.declared.Clash.{Clash}
-use Rattle.query.specs.declared.Clash.the-variants as C
-use Rattle.query.specs.declared.QueryAnswer.{QueryAnswer}
-use Rattle.query.specs.declared.QueryAnswer.the-variants as A
-use Rattle.query.specs.Parts.{mapRead, placed, nodeHeadRead}
-use Rattle.query.specs.Variables.{has, IsGot, PatternsSound, patternsOf, NodeSound, nodeOf, ownUses, nextNode}
-use Rattle.query.specs.Variables.{headVariable, foundVariable, projectedIn, QuerySound, clashesWith, clashAt, clashIn, Checked}
+use Rattle.query.specs.Parts.{placed, nodeHeadRead}
+use Rattle.query.specs.Variables.{PatternsSound, NodeSound, nodeOf, nextNode, QuerySound}
 use Rattle.query.proofs.ReadLaws.{fault-not-got}
-use Rattle.query.proofs.Forest.{ReadsAll, readsAll-inside, operandsIn, operandsAt, operandsAt-positive, PatternsRead}
-use Rattle.query.proofs.Forest.{node-found, own-read, read-size, read-formed, forest-step, forest-end}
-use Rattle.query.proofs.Uses.{uses, forestUses, forestUses-step, occurrences-append, uses-clashes, forestProjections, ownProjection}
-use Rattle.query.proofs.Uses.{clash-pass, clash-free, clash-here}
+use Rattle.query.proofs.Forest.{ReadsAll, readsAll-inside, operandsIn, operandsAt, operandsAt-positive, PatternsRead, NodeFound}
+use Rattle.query.proofs.Forest.{query-reads, node-found, own-read, read-size, read-formed}
+use Rattle.scope.specs.Variables.{has, patternsOf, ownUses, headVariable, foundVariable, projectedIn, clashesWith, clashAt}
+use Rattle.scope.proofs.Uses.{uses, forestUses, forestUses-step, uses-clashes, forestProjections, ownProjection, clash-pass}
+use Rattle.scope.proofs.Uses.{clash-free, clash-here}
 
--- ---- patterns
+-- ---- from head to head
 
--- a slot below 1048576 is a term
-pub slot-term : (v x : ℕ) → x < 1048576 → has v (slotVariables (slotOf x)) ≡ false
-slot-term v x l = rw (lt-ltb x 1048576 l)
+readsAll-shift : (s : List ℕ) (by at : ℕ) (xs : List Node) (end : ℕ) → ReadsAll (drop by s) at xs end → ReadsAll s (by + at) xs (by + end)
+readsAll-shift s by at [] end h = ap (λ n. by + n) h
+readsAll-shift s by at (x ∷ xs) end h =
+    (h .0, ap readNode (sym (drop-drop at by s)) ∙ h .1, rw (add-assoc by at (h .0)) (readsAll-shift s by (at + h .0) xs end (h .2)))
 
-pub slot-variable : (v x : ℕ) → 1048576 ≤ x → has v (slotVariables (slotOf x)) ≡ eqb (x % 1048576) v
-slot-variable v x l = rw (le-ltb x 1048576 l) (go (eqb v (x % 1048576)) refl)
+readsAll-append : (s : List ℕ) (at : ℕ) (xs ys : List Node) (mid end : ℕ) → ReadsAll s at xs mid → ReadsAll s mid ys end
+    → ReadsAll s at (xs ++ ys) end
+readsAll-append s at [] ys mid end h k = rw h k
+readsAll-append s at (x ∷ xs) ys mid end h k = (h .0, h .1, readsAll-append s (at + h .0) xs ys mid end (h .2) k)
+
+-- the head of the first node, and then its operands and the nodes behind it
+pub forest-step : (s : List ℕ) (at : ℕ) (x : Node) (xs : List Node) (end : ℕ) (h : ReadsAll s at (x ∷ xs) end)
+    → NodeFound (drop at s) x (h .0) × ReadsAll s (at + operandsAt x (h .0)) (operandsIn x ++ xs) end
+forest-step s at x xs end h =
+    let f = node-found (drop at s) x (h .0) (h .1) in (
+      f,
+      readsAll-append s (at + operandsAt x (h .0)) (operandsIn x) xs (at + h .0) end
+          (readsAll-shift s at (operandsAt x (h .0)) (operandsIn x) (h .0) (f .operands-are)) (h .2),
+    )
+
+-- at the end there is no node left
+pub forest-end : (s : List ℕ) (at : ℕ) (xs : List Node) → length s ≤ at → ReadsAll s at xs (length s) → xs ≡ []
+forest-end s at [] l h = refl
+forest-end s at (x ∷ xs) l h =
+    absurd (omega (
+      arith,
+      read-size (drop at s) x (h .0) (h .1),
+      nodeSize-positive x,
+      inside (readNode (drop at s)) (h .1) (readNode-sound (drop at s)),
+      length-drop at s,
+    ))
   where
-    go : (b : Bool) → eqb v (x % 1048576) ≡ b → has v ((x % 1048576) ∷ []) ≡ eqb (x % 1048576) v
-    go true e = rw (e, eq-eqb (x % 1048576) v (sym (eqb-true v (x % 1048576) e)))
-    go false e = rw (e, ne-eqb (x % 1048576) v (λ d. eqb-false v (x % 1048576) e (sym d)))
-
-pub has-append : (v : ℕ) (xs ys : List ℕ) → has v (xs ++ ys) ≡ has v xs || has v ys
-has-append v xs ys = go (occurrences v xs) refl
-  where
-    go : (n : ℕ) → occurrences v xs ≡ n → has v (xs ++ ys) ≡ has v xs || has v ys
-    go zero e = rw (occurrences-append v xs ys, e, zero-add (occurrences v ys))
-    go (suc n) e =
-        rw (
-          lt-ltb 0 (occurrences v xs) (omega arith),
-          lt-ltb 0 (occurrences v (xs ++ ys)) (omega (arith, occurrences-append v xs ys)),
-        )
-
-pub pattern-slots : (v : ℕ) (p : Pattern)
-    → has v (variablesOf p)
-    ≡ has v (slotVariables (p .subject)) || (has v (slotVariables (p .predicate)) || has v (slotVariables (p .object)))
-pattern-slots v p =
-    has-append v (slotVariables (p .subject)) (slotVariables (p .predicate) ++ slotVariables (p .object))
-    ∙ ap (λ b. has v (slotVariables (p .subject)) || b) (has-append v (slotVariables (p .predicate)) (slotVariables (p .object)))
-
--- the patterns left have the variable exactly if all have it
-pub record HaveLeft (v : ℕ) (s : List ℕ) (n at left p : ℕ) : Type 0 where
-  pub same : has v (patternsOf n at s) ≡ has v (patternsOf left p s)
-  pub sound : PatternsSound left p s
-
--- the next of the patterns left, and those behind it
-record NextPattern (s : List ℕ) (left p k : ℕ) (x : Pattern) : Type 0 where
-  variables : patternsOf left p s ≡ variablesOf x ++ patternsOf (left - 1) (p + k) s
-  behind : PatternsSound (left - 1) (p + k) s
-
-next-pattern : (s : List ℕ) (left p k : ℕ) (x : Pattern) → 1 ≤ left → readPattern (drop p s) ≡ got x k → PatternsSound left p s
-    → NextPattern s left p k x
-unfolding readPatterns
-next-pattern s zero p k x l e h = absurd (omega arith)
-next-pattern s (suc n) p k x l e h =
-    let one : suc n - 1 ≡ n = omega arith in
-    let rest = drop-drop k p s in
-    go (readPatterns n (drop (p + k) s)) refl one rest (rw (e, zero-add k, rest) at h)
-  where
-    go : (r : Read (List Pattern)) → readPatterns n (drop (p + k) s) ≡ r → suc n - 1 ≡ n → drop k (drop p s) ≡ drop (p + k) s
-        → IsGot (andThen k (readPatterns n (drop (p + k) s)) (λ ps next. got (x ∷ ps) next)) → NextPattern s (suc n) p k x
-    go (got ps m) d one rest g = record { variables = rw (e, one, zero-add k, rest, d); behind = rw (one, d) tt }
-    go (fault m) d one rest g = absurd (rw d at g)
-
-module _ {v : ℕ} {s : List ℕ} {n at left p : ℕ} (h : HaveLeft v s n at left p) where
-  pub have-none : left ≡ 0 → has v (patternsOf n at s) ≡ false
-  unfolding readPatterns
-  have-none e = h .same ∙ rw e
-
-  pub have-fault : {k : ℕ} → 1 ≤ left → readPattern (drop p s) ≡ fault k → ⊥
-  unfolding readPatterns
-  have-fault l e = no left l e (h .sound)
-    where
-      no : (left : ℕ) {k : ℕ} → 1 ≤ left → readPattern (drop p s) ≡ fault k → PatternsSound left p s → ⊥
-      no zero l e g = omega arith
-      no (suc m) l e g = rw e at g
-
-  pub have-here : {x : Pattern} {k : ℕ} → 1 ≤ left → readPattern (drop p s) ≡ got x k → has v (variablesOf x) ≡ true
-      → has v (patternsOf n at s) ≡ true
-  have-here {x} {k} l e t =
-      h .same ∙ ap (has v) (next-pattern s left p k x l e (h .sound) .variables)
-      ∙ has-append v (variablesOf x) (patternsOf (left - 1) (p + k) s) ∙ rw t
-
-  pub have-next : {x : Pattern} {k : ℕ} → 1 ≤ left → readPattern (drop p s) ≡ got x k → has v (variablesOf x) ≡ false
-      → HaveLeft v s n at (left - 1) (p + k)
-  have-next {x} {k} l e f =
-      let next = next-pattern s left p k x l e (h .sound) in
-      record {
-        same = h .same ∙ ap (has v) (next .variables) ∙ has-append v (variablesOf x) (patternsOf (left - 1) (p + k) s) ∙ rw f;
-        sound = next .behind;
-      }
+    inside : (r : Read Node) → r ≡ got x (h .0) → ReadsNode (drop at s) r → h .0 ≤ length (drop at s)
+    inside (got y m) d w = let k : m ≡ h .0 = cc in omega (arith, w .1 .inside)
+    inside (fault p) d w = absurd (fault-not-got d)
 
 -- ---- the next node of a walk
 
@@ -234,21 +184,6 @@ ownUses-small v (projectTrust w x) = go (eqb w v)
     go true = omega arith
     go false = omega arith
 ownUses-small v (ensureTrust l u x) = omega arith
-
--- ---- a whole query
-
--- a query without a fault is one node, up to its end
-pub query-reads : (s : List ℕ) → QuerySound s → ReadsAll s 0 (queryNode s ∷ []) (length s)
-unfolding readQuery queryNode
-query-reads s h = go (readNode s) refl
-  where
-    go : (r : Read Node) → readNode s ≡ r → ReadsAll s 0 (queryNode s ∷ []) (length s)
-    go (got q n) e = end (eqb (0 + n) (length s)) refl
-      where
-        end : (b : Bool) → eqb (0 + n) (length s) ≡ b → ReadsAll s 0 (queryNode s ∷ []) (length s)
-        end true d = (n, e ∙ rw (e, d), eqb-true (0 + n) (length s) d)
-        end false d = absurd (rw (e, d) at h)
-    go (fault p) e = absurd (rw e at h)
 
 -- ---- the uses of the nodes left
 
@@ -401,59 +336,3 @@ module _ {s : List ℕ} {at : ℕ} (h : ClashLeft s at) where
       h .same
       ∙ ap (λ (xs : List Node). firstClash (keepIf (clashes (queryNode s)) (forestProjections at xs)))
       (forest-end s at (h .forest) l (h .reads))
-
--- ---- the check of a query, by its parts
-
--- a refusal, by its number
-refused-checked : (limit n p : ℕ) (s : List ℕ) → 1 ≤ n → queryRefusal limit s ≡ refuse n p → Checked limit s (A.Refused n p)
-refused-checked limit n p s l e = record { sound = rw (e, ne-eqb n 0 (λ z. omega arith)); refusal = sym e }
-
-pub long-checked : (limit : ℕ) (s : List ℕ) → limit < length s → Checked limit s (A.Refused 5 0)
-unfolding queryRefusal
-long-checked limit s l = refused-checked limit 5 0 s (omega arith) (rw (lt-ltb limit (length s) l))
-
-pub fault-checked : (limit p : ℕ) (s : List ℕ) → length s ≤ limit → readNode s ≡ fault p → Checked limit s (A.Refused 6 p)
-unfolding queryRefusal readQuery
-fault-checked limit p s l e = refused-checked limit 6 p s (omega arith) (rw (le-ltb limit (length s) l, e, zero-add p))
-
-pub surplus-checked : (limit n : ℕ) (s : List ℕ) (x : Node) → length s ≤ limit → readNode s ≡ got x n → (n ≡ length s → ⊥)
-    → Checked limit s (A.Refused 6 n)
-unfolding queryRefusal readQuery
-surplus-checked limit n s x l e d =
-    refused-checked limit 6 n s (omega arith) (rw (le-ltb limit (length s) l, e, zero-add n, ne-eqb n (length s) d))
-
--- a node up to the end is a query
-pub whole-sound : (n : ℕ) (s : List ℕ) (x : Node) → readNode s ≡ got x n → n ≡ length s → QuerySound s
-unfolding readQuery
-whole-sound n s x e d = rw (e, zero-add n, eq-eqb n (length s) d) tt
-
-whole-refusal : (limit n : ℕ) (s : List ℕ) (x : Node) → length s ≤ limit → readNode s ≡ got x n → n ≡ length s
-    → queryRefusal limit s ≡ variablesRefusal (queryNode s)
-unfolding queryRefusal readQuery queryNode
-whole-refusal limit n s x l e d = rw (le-ltb limit (length s) l, e, zero-add n, eq-eqb n (length s) d)
-
--- the answer by the first clash
-abbrev pub byClash : Clash → QueryAnswer
-byClash C.Nowhere = A.Sound
-byClash (C.At p) = A.Refused 7 p
-
-pub whole-checked : (limit n : ℕ) (s : List ℕ) (x : Node) (c : Clash) → length s ≤ limit → readNode s ≡ got x n → n ≡ length s
-    → clashIn c ≡ variablesRefusal (queryNode s) → Checked limit s (byClash c)
-whole-checked limit n s x C.Nowhere l e d h =
-    let none = whole-refusal limit n s x l e d ∙ sym h in
-    record { sound = rw none; refusal = sym none }
-whole-checked limit n s x (C.At p) l e d h = refused-checked limit 7 p s (omega arith) (whole-refusal limit n s x l e d ∙ sym h)
-
--- what a head that was read says of its node
-abbrev pub HeadOf : Read Head → Read Node → Type 0
-HeadOf (got h n) r = (x : Node) × (r ≡ got x n)
-HeadOf (fault p) r = r ≡ fault p
-
-pub head-node : (p : Read Head) (s : List ℕ) → p ≡ mapRead nodeHead (readNode s) → HeadOf p (readNode s)
-head-node p s e = go p (readNode s) e
-  where
-    go : (p : Read Head) (r : Read Node) → p ≡ mapRead nodeHead r → HeadOf p r
-    go (got h n) (got x m) d = let k : n ≡ m = cc in (x, ap (got x) (sym k))
-    go (got h n) (fault q) d = absurd (fault-not-got (sym d))
-    go (fault q) (got x m) d = absurd (fault-not-got d)
-    go (fault q) (fault k) d = let same : k ≡ q = cc in ap fault same

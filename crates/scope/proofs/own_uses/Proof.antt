@@ -1,14 +1,15 @@
 -- By the head of the node. Assumes nothing.
 use mathlib.Core.Path.{_≡_, sym, ap, _∙_}
 use borrow.Author.Tests.{eq-eqb, ne-eqb}
 use Rattle.query.specs.Answers.{nodeFound}
 use Rattle.query.proofs.NodeParts.{node-head-inside}
-use Rattle.query.proofs.Walk.{headUses, HeadOfNode, head-of-node, head-sound}
+use Rattle.scope.proofs.Walk.{headUses, HeadOfNode, head-of-node, head-sound}
 use Rattle.query.specs.declared.Head.{Head}
-use Rattle.query.specs.Variables.{nodeOf, ownUses}
+use Rattle.query.specs.Variables.{nodeOf}
+use Rattle.scope.specs.Variables.{ownUses}
 use borrow.Author.Needs.{needs}
-use Rattle.query.proofs.own_uses.Statement.{statement}
-use Rattle.query.proofs.own_uses.Tie as tie
+use Rattle.scope.proofs.own_uses.Statement.{statement}
+use Rattle.scope.proofs.own_uses.Tie as tie
 
 read-head-requires : tie.Need-read-head-requires
 read-head-requires c κs = search needs

@@ -1,0 +1,2 @@
+-- The variables of a query, and the answer of its check.
+pub mod Variables
