@@ -20,10 +20,11 @@ same-length c = search needs
 
 returns : tie.Need-returns
 returns c =
-    let p = c .before .before .before .before .before .before .before .before .before .before .before .before .before .args .p in
+    let first = c .before .before .before .before .before .before .before .before .before .before in
+    let p = first .before .before .before .args .p in
     c .before .before .put-bits3 .ensures
     ∙ ap (λ out. sets out 6 (threeBytes (p .object))) (c .before .before .before .before .before .before .put-bits2 .ensures)
-    ∙ ap (λ out. sets (sets out 3 (threeBytes (p .predicate))) 6 (threeBytes (p .object))) (c .before .before .before .before .before .before .before .before .before .before .put-bits .ensures)
+    ∙ ap (λ out. sets (sets out 3 (threeBytes (p .predicate))) 6 (threeBytes (p .object))) (first .put-bits .ensures)
 
 pub put-slots-spec : {M : Type 1} → statement M
 put-slots-spec =

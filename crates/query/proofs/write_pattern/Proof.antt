@@ -1,10 +1,10 @@
 -- By the tests. Assumes nothing.
-use mathlib.Core.Path.{sym, _∙_}
-use mathlib.Core.Bool.{_&&_}
+use mathlib.Core.Path.{_≡_, sym, _∙_}
+use mathlib.Core.Bool.{true, _&&_}
 use native.Mathlib.Omega.{arith}
 use Rattle.tsparql.specs.Reading.{slotSound}
 use Rattle.tsparql.proofs.WrittenRead.{slotSound-range}
-use Rattle.query.specs.Writers.{slotsBytes}
+use Rattle.query.specs.Writers.{slotsBytes, soundPatternBytes}
 use Rattle.query.proofs.WriterLaws.{stored, misfits, nothing-wrote, and-false, false-and, pattern-slots}
 use borrow.Author.Needs.{needs}
 use Rattle.query.proofs.write_pattern.Statement.{statement}
@@ -19,12 +19,31 @@ slot-sound-requires-2 c κs = search needs
 slot-sound-requires-3 : tie.Need-slot-sound-requires-3
 slot-sound-requires-3 c κs = search needs
 
+-- where the slots are sound
+sound-at : (c : tie.Then3)
+    → let p = c .before .before .before .before .before .before .before .args .p in
+    (slotSound (p .subject) ≡ true) × (slotSound (p .predicate) ≡ true) × (slotSound (p .object) ≡ true)
+sound-at c = (
+  sym (c .before .before .before .before .before .slot-sound .ensures) ∙ c .before .before .before .before .if1 .taken,
+  sym (c .before .before .before .slot-sound2 .ensures) ∙ c .before .before .if2 .taken,
+  sym (c .before .slot-sound3 .ensures) ∙ c .if3 .taken,
+)
+
+-- the bytes are the slots'
+bytes-at : (c : tie.Then3)
+    → let p = c .before .before .before .before .before .before .before .args .p in
+    soundPatternBytes p ≡ slotsBytes p
+bytes-at c =
+    let sound = sound-at c in
+    pattern-slots (c .before .before .before .before .before .before .before .args .p) (sound .0) (sound .1) (sound .2)
+
 put-slots-requires : tie.Need-put-slots-requires
 put-slots-requires c κs =
     let p = c .before .before .before .before .before .before .before .before .before .args .p in
-    let s = slotSound-range (p .subject) (sym (c .before .before .before .before .before .before .before .slot-sound .ensures) ∙ c .before .before .before .before .before .before .if1 .taken) in
-    let t = slotSound-range (p .predicate) (sym (c .before .before .before .before .before .slot-sound2 .ensures) ∙ c .before .before .before .before .if2 .taken) in
-    let u = slotSound-range (p .object) (sym (c .before .before .before .slot-sound3 .ensures) ∙ c .before .before .if3 .taken) in
+    let sound = sound-at (c .before .before) in
+    let s = slotSound-range (p .subject) (sound .0) in
+    let t = slotSound-range (p .predicate) (sound .1) in
+    let u = slotSound-range (p .object) (sound .2) in
     (omega arith, (omega (arith, s .1), omega (arith, t .1), omega (arith, u .1)))
 
 same-length : tie.Need-same-length
@@ -33,34 +52,30 @@ same-length c = search needs
 returns : tie.Need-returns
 returns c =
     let a = c .before .before .before .before .before .before .before .before .before .before .before .before .args in
-    rw (
-      pattern-slots (a .p) (sym (c .before .before .before .before .before .before .before .before .before .before .slot-sound .ensures) ∙ c .before .before .before .before .before .before .before .before .before .if1 .taken)
-          (sym (c .before .before .before .before .before .before .before .before .slot-sound2 .ensures) ∙ c .before .before .before .before .before .before .before .if2 .taken)
-          (sym (c .before .before .before .before .before .before .slot-sound3 .ensures) ∙ c .before .before .before .before .before .if3 .taken),
-      c .before .before .put-slots .ensures,
-    )
+    rw (bytes-at (c .before .before .before .before .before), c .before .before .put-slots .ensures)
     (stored (slotsBytes (a .p)) (a .out .now) (omega arith))
 
 returns-2 : tie.Need-returns-2
 returns-2 c =
     let a = c .before .before .before .before .before .before .before .before .args in
-    rw (pattern-slots (a .p) (sym (c .before .before .before .before .before .before .slot-sound .ensures) ∙ c .before .before .before .before .before .if1 .taken)
-    (sym (c .before .before .before .before .slot-sound2 .ensures) ∙ c .before .before .before .if2 .taken)
-    (sym (c .before .before .slot-sound3 .ensures) ∙ c .before .if3 .taken)) (misfits (slotsBytes (a .p)) (a .out .now) (omega arith))
+    rw (bytes-at (c .before)) (misfits (slotsBytes (a .p)) (a .out .now) (omega arith))
 
 returns-3 : tie.Need-returns-3
 returns-3 c =
-    let p = c .before .before .before .before .before .before .before .args .p in
-    nothing-wrote _ _ (c .before .before .before .before .before .before .before .args .out .now)
-    (and-false (slotSound (p .subject) && slotSound (p .predicate)) _ (sym (c .before .slot-sound3 .ensures) ∙ c .if3 .left))
+    let a = c .before .before .before .before .before .before .before .args in
+    nothing-wrote _ _ (a .out .now)
+    (and-false (slotSound (a .p .subject) && slotSound (a .p .predicate)) _ (sym (c .before .slot-sound3 .ensures) ∙ c .if3 .left))
 
 returns-4 : tie.Need-returns-4
 returns-4 c =
-    nothing-wrote _ _ (c .before .before .before .before .before .args .out .now) (false-and _ _ (and-false (slotSound (c .before .before .before .before .before .args .p .subject)) _ (sym (c .before .slot-sound2 .ensures) ∙ c .if2 .left)))
+    let a = c .before .before .before .before .before .args in
+    nothing-wrote _ _ (a .out .now)
+    (false-and _ _ (and-false (slotSound (a .p .subject)) _ (sym (c .before .slot-sound2 .ensures) ∙ c .if2 .left)))
 
 returns-5 : tie.Need-returns-5
 returns-5 c =
-    nothing-wrote _ _ (c .before .before .before .args .out .now) (false-and _ _ (false-and _ _ (sym (c .before .slot-sound .ensures) ∙ c .if1 .left)))
+    nothing-wrote _ _ (c .before .before .before .args .out .now)
+    (false-and _ _ (false-and _ _ (sym (c .before .slot-sound .ensures) ∙ c .if1 .left)))
 
 pub write-pattern-spec : {M : Type 1} → statement M
 write-pattern-spec =

@@ -23,18 +23,20 @@ slice-write-out c = search needs
 
 put-bits-requires : tie.Need-put-bits-requires
 put-bits-requires c κs =
-    let a = c .before .before .before .before .before .before .args in
-    (simp length-set (omega arith), omega (arith, termSound-formed (a .a) (sym (c .before .before .before .term-sound .ensures) ∙ c .before .before .if2 .taken) .1))
+    let a = c .before .before .before .before .before .before .args .a in
+    let sound = sym (c .before .before .before .term-sound .ensures) ∙ c .before .before .if2 .taken in
+    (simp length-set (omega arith), omega (arith, termSound-formed a sound .1))
 
 same-length : tie.Need-same-length
 same-length c = ap length (c .before .before .put-bits .ensures) ∙ simp length-set
 
 returns : tie.Need-returns
 returns c =
-    let a = c .before .before .before .before .before .before .before .before .before .args in
+    let test = c .before .before .before .before .before in
+    let a = test .before .before .before .before .args in
     rw (c .before .before .put-bits .ensures)
     (stored-if _ (firstByte 2 (a .v) ∷ threeBytes (a .a)) (a .out .now)
-    (and-true _ _ (lt-ltb (a .v) 16 (omega arith)) (sym (c .before .before .before .before .before .before .term-sound .ensures) ∙ c .before .before .before .before .before .if2 .taken)) (omega arith))
+    (and-true _ _ (lt-ltb (a .v) 16 (omega arith)) (sym (test .before .term-sound .ensures) ∙ test .if2 .taken)) (omega arith))
 
 returns-2 : tie.Need-returns-2
 returns-2 c =
