@@ -449,10 +449,10 @@ pub fn next_node(q: &[u8]) -> Place
     ensures { λ r. ⌜ placeFound r ≡ nextNode (now (q .entry)) ⌝ }
 {
     let h = read_own(q);
-    let NodeRead::Node(_, at) = h else {
+    let NodeRead::Node(_, behind) = h else {
         return Place::Fault(node_fault(h));
     };
-    Place::At(at)
+    Place::At(behind)
 }
 
 // ---- writers
