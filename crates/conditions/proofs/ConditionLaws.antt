@@ -20,6 +20,7 @@ use Rattle.tsparql.proofs.ReaderSteps.{readCondition-step}
 use Rattle.tsparql.proofs.WrittenRead.{ReadsCondition, readCondition-sound}
 use Rattle.query.specs.declared.ConditionHead.{ConditionHead}
 use Rattle.query.specs.declared.ConditionHead.the-variants as C
+use Rattle.query.specs.Answers.{faultIn}
 use Rattle.query.specs.Parts.{mapRead, follow, pairHead, termHead, conditionHeadRead, conditionOperands}
 use Rattle.query.proofs.ReadLaws.{by-kind}
 use Rattle.conditions.specs.Truths.{HeadFormed, headTruth, judgedFound, faultRefusal, Judges, truthIn}
@@ -138,6 +139,10 @@ module _ (s : List ℕ) where
 
 -- ---- its truth on a row's cells
 
+-- a fault by its place
+pub fault-place : {A : Type 0} {r : Read A} {n p : ℕ} → r ≡ fault p → n ≡ faultIn r → r ≡ fault n
+fault-place e d = e ∙ ap fault (sym (d ∙ ap faultIn e))
+
 -- what was found, by what it was made into
 module _ {A B : Type 0} (f : A → B) where
   fault-made : (r : Read A) (p : ℕ) → mapRead f r ≡ fault p → r ≡ fault p
@@ -153,7 +158,7 @@ module _ (s : List ℕ) (cs : List Cell) where
   T = truthOn cs
 
   -- the truth found from a place on
-  abbrev judgedAt : ℕ → Read D.Truth
+  abbrev pub judgedAt : ℕ → Read D.Truth
   judgedAt at = mapRead T (readCondition (drop at s))
 
   one-made : (f : Condition → Condition) (g : D.Truth → D.Truth) → ((c : Condition) → T (f c) ≡ g (T c))
@@ -241,9 +246,12 @@ module _ (s : List ℕ) (cs : List Cell) where
 
   -- ---- the answer
 
-  pub judges-truth : (t : Truth) (n : ℕ) → mapRead T (readCondition s) ≡ got (truthIn t) n → Judges s cs (J.Truth t n)
-  judges-truth t n e =
-      record { found = sym e; refusal = got-made T (λ r. noRefusal ≡ faultRefusal r) (readCondition s) (truthIn t) n e (λ _ _. refl) }
+  pub judges-truth : (t : Truth) (u : D.Truth) (n : ℕ) → truthIn t ≡ u → mapRead T (readCondition s) ≡ got u n → Judges s cs (J.Truth t n)
+  judges-truth t u n e d =
+      record {
+        found = rw e (sym d);
+        refusal = got-made T (λ r. noRefusal ≡ faultRefusal r) (readCondition s) u n d (λ _ _. refl);
+      }
 
   pub judges-refused : (p : ℕ) → readCondition s ≡ fault p → Judges s cs (J.Refused 6 p)
   judges-refused p e = record { found = sym (rw e); refusal = sym (rw e) }
