@@ -1,7 +1,7 @@
 -- The definitions' reader of a condition by its head (`condition-tree`), and from it the truth of a condition on a row's cells by its
 -- head and its operands, in the order of the code: no operand, a fault of the first, one, a fault of the second, two.
 -- Assumes nothing.
-use mathlib.Core.Path.{_≡_, refl, sym, ap, _∙_}
+use mathlib.Core.Path.{_≡_, refl, sym, ap, subst, _∙_}
 use mathlib.Core.Bool.{Bool, true, false, _&&_, not, cond}
 use mathlib.Core.List.{List}
 use Prim.Native.Nat.{ℕ, _+_, _≤_, _<_}
@@ -22,8 +22,9 @@ use Rattle.query.specs.declared.ConditionHead.{ConditionHead}
 use Rattle.query.specs.declared.ConditionHead.the-variants as C
 use Rattle.query.specs.Answers.{faultIn}
 use Rattle.query.specs.Parts.{mapRead, follow, pairHead, termHead, conditionHeadRead, conditionOperands}
+use Rattle.query.specs.Variables.{IsGot}
 use Rattle.query.proofs.ReadLaws.{by-kind}
-use Rattle.conditions.specs.Truths.{HeadFormed, headTruth, judgedFound, faultRefusal, Judges, truthIn}
+use Rattle.conditions.specs.Truths.{truthIn, ConditionSound, foundCondition, conditionOf, HeadFormed, headTruth, faultRefusal, Judges}
 use Rattle.conditions.specs.declared.Truth.{Truth}
 use Rattle.conditions.specs.declared.Judged.the-variants as J
 
@@ -255,3 +256,19 @@ module _ (s : List ℕ) (cs : List Cell) where
 
   pub judges-refused : (p : ℕ) → readCondition s ≡ fault p → Judges s cs (J.Refused 6 p)
   judges-refused p e = record { found = sym (rw e); refusal = sym (rw e) }
+
+-- ---- what an answer tells its caller
+
+module _ {s : List ℕ} {cs : List Cell} where
+  -- the part starts with a condition, whose last byte is before the next place
+  pub judged-read : {t : Truth} {n : ℕ} → Judges s cs (J.Truth t n) → readCondition s ≡ got (conditionOf s) n
+  judged-read {t} {n} j = got-made (truthOn cs) (λ r. r ≡ got (foundCondition r) n) (readCondition s) (truthIn t) n (sym (j .found)) (λ _ _. refl)
+
+  -- the truth is the condition's
+  pub judged-truth : {t : Truth} {n : ℕ} → Judges s cs (J.Truth t n) → truthIn t ≡ truthOn cs (conditionOf s)
+  judged-truth {t} {n} j =
+      got-made (truthOn cs) (λ r. truthIn t ≡ truthOn cs (foundCondition r)) (readCondition s) (truthIn t) n (sym (j .found)) (λ _ e. sym e)
+
+  -- a condition is not refused
+  pub judged-sound : {n p : ℕ} → ConditionSound s → Judges s cs (J.Refused n p) → ⊥
+  judged-sound {n} {p} h j = subst IsGot (fault-made (truthOn cs) (readCondition s) p (sym (j .found))) h
