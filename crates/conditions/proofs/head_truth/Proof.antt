@@ -87,7 +87,8 @@ returns-2 c =
 
 returns-3 : tie.Need-returns-3
 returns-3 c =
-    rw (c .before .before .before .h3 .given .1) (c .same-truth2 .ensures ∙ ap (λ d. sameTruth d (term (c .before .before .before .h3 .given .0 .1 .0))) (c .before .cell-at4 .ensures))
+    let h = c .before .before .before .h3 .given in
+    rw (h .1) (c .same-truth2 .ensures ∙ ap (λ d. sameTruth d (term (h .0 .1 .0))) (c .before .cell-at4 .ensures))
 
 returns-4 : tie.Need-returns-4
 returns-4 c =

@@ -27,7 +27,8 @@ returns c =
 
 returns-2 : tie.Need-returns-2
 returns-2 c =
-    absurd (judged-sound (c .before .before .before .before .before .pre .0) (subst (Judges _ _) (c .enum-told .given .1) (c .before .before .truth-of .ensures)))
+    let told = subst (Judges _ _) (c .enum-told .given .1) (c .before .before .truth-of .ensures) in
+    absurd (judged-sound (c .before .before .before .before .before .pre .0) told)
 
 pub true-on-spec : {M : Type 1} → statement M
 true-on-spec =
