@@ -57,8 +57,7 @@ loop-again c =
     let cur = head .loop .space in
     let i = head .loop .i in
     let test = tested .ensures ∙ ap (λ (l : List ℕ). trueOn (conditionOf q) (rowAt 0 l)) (part-drop cur (rowLength * i)) in
-    rw (c .before .before .keep-row .ensures .0, c .before .before .keep-row .ensures .1)
-    (compacted-more (head .before .before .before .pre .1) (head .loop .inv) (omega arith) (tested .result) test)
+    compacted-more (head .before .before .before .pre .1) (head .loop .inv) (omega arith) _ test (c .before .before .keep-row .ensures)
 
 same-length : tie.Need-same-length Inv-loop μ-loop
 same-length c = c .before .loop .inv .rows .len
