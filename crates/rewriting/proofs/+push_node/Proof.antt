@@ -173,8 +173,8 @@ own-at t c =
 abbrev size-at : (t : ℕ) → OwnRead t → ℕ
 size-at t c = nodeSize (nodeOf (s-at t c))
 
-abbrev push-size-at : (t : ℕ) → OwnRead t → ℕ
-push-size-at t c = nodeSize (push (b-at t c) (nodeOf (s-at t c)))
+abbrev pushed-size-at : (t : ℕ) → OwnRead t → ℕ
+pushed-size-at t c = nodeSize (push (b-at t c) (nodeOf (s-at t c)))
 
 -- its part of the push, how long it is, and the output with it
 abbrev own-bytes-at : (t : ℕ) → OwnRead t → List ℕ
@@ -240,7 +240,7 @@ record FirstAt (t : ℕ) (c : FirstFound t) : Type 0 where
   next-is : next-at t c ≡ first-size-at t (first-read t c)
   inside : (k-at t (first-read t c) + first-size-at t (first-read t c) ≤ length (s-at t (first-read t c)))
       × (ownSize (h-at t (first-read t c)) (b-at t (first-read t c)) (k-at t (first-read t c)) + length (first-bytes-at t (first-read t c))
-      ≤ push-size-at t (first-read t c))
+      ≤ pushed-size-at t (first-read t c))
   wrote : Wrote (own-bytes-at t (first-read t c) ++ first-bytes-at t (first-read t c)) (out-at t (first-read t c)) (out₂-at t c)
       (first-end-at t c)
 
@@ -319,7 +319,7 @@ record SecondAt (t : ℕ) (c : SecondFound t) : Type 0 where
   wrote : Wrote (all-bytes-at t (second-first t c)) (out-at t (second-read t c)) (out₃-at t c)
       (first-end-at t (second-first t c) + right-at t c)
   place : place-at t (second-first t c) + last-at t c ≡ size-at t (second-read t c)
-  total : length (all-bytes-at t (second-first t c)) ≡ push-size-at t (second-read t c)
+  total : length (all-bytes-at t (second-first t c)) ≡ pushed-size-at t (second-read t c)
 
 second-at : (t : ℕ) (c : SecondFound t) → SecondAt t c
 second-at t c =
