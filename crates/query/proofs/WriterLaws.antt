@@ -1,4 +1,5 @@
--- What the writers leave in an output: all bytes where they fit (`fits-wrote`), else none (`misfits`). Assumes nothing.
+-- What the writers leave in an output: all bytes where they fit (`fits-wrote`), else none (`misfits`), and one writer's bytes behind
+-- another's (`wrote-behind`). Assumes nothing.
 use mathlib.Core.Path.{_≡_, refl, sym, ap, _∙_}
 use mathlib.Core.Bool.{Bool, false, _&&_, cond}
 use mathlib.Core.List.{List, [], _++_, append-nil, append-assoc}
