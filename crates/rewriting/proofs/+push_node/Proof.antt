@@ -473,11 +473,11 @@ push-node-second-bound-requires t c κs = search needs
 
 push-node-sub-push-node-4 : (t : ℕ) → push-node-lts.Need-sub-push-node-4 (push-node-calls t) (push-node-at t) push-node.Post
 push-node-sub-push-node-4 t c =
-    let k = c .before .before .before in omega (arith, first-long t k, first-at t k .wrote .size, first-fits t k)
+    let x = c .before .before .before in omega (arith, first-long t x, first-at t x .wrote .size, first-fits t x)
 
 push-node-part-push-node-start-4 : (t : ℕ) → push-node-lts.Need-part-push-node-start-4 (push-node-calls t) (push-node-at t) push-node.Post
 push-node-part-push-node-start-4 t c =
-    let k = c .before .before .before in omega (arith, first-long t k, first-at t k .wrote .size, first-fits t k)
+    let x = c .before .before .before in omega (arith, first-long t x, first-at t x .wrote .size, first-fits t x)
 
 push-node-part-push-node-end-4 : (t : ℕ) → push-node-lts.Need-part-push-node-end-4 (push-node-calls t) (push-node-at t) push-node.Post
 push-node-part-push-node-end-4 t c = search needs

@@ -1,7 +1,7 @@
 -- The measure is the bytes left. A node's push is put together from its operands' by the laws of PushSteps. Assumes nothing.
 use mathlib.Core.Path.{_≡_, sym, ap, subst, _∙_}
 use mathlib.Core.List.{List}
-use Prim.Native.Nat.{ℕ, _+_, _≤_, _<_}
+use Prim.Native.Nat.{ℕ, _+_, _*_, _≤_, _<_}
 use native.Mathlib.Omega.{arith}
 use borrow.Author.Needs.{needs}
 use borrow.Fn.Kinds.{In}
@@ -213,6 +213,13 @@ first-at t c =
     let a = answered-part (s-at t p) (k-at t p) _ _ (f .push-size .result) bound (f .push-size .ensures) (c .before .x .given .1) in
     record { left-is = a .0; next-is = a .1; inside = first-inside (own-at t p) (b-at t p) (some-at t (has-first-of t f)) }
 
+first-end-small : (t : ℕ) (c : FirstFound t) → first-end-at t c ≤ 5 * rewriteLimit
+first-end-small t c =
+    let f = first-at t c in
+    let w = first-sized t c in
+    let p = read-of t w in
+    omega (arith, f .left-is, f .inside .1, w .own-size .ensures, push-inside (own-at t p) (b-at t p), pre-at t p .1)
+
 -- ---- the second operand
 
 two-at : (t : ℕ) (c : HasSecond t)
@@ -324,11 +331,7 @@ push-size-add-at t c =
     let f = first-at t c in omega (arith, f .next-is, f .inside .0, pre-at t (first-read t c) .1)
 
 push-size-add-t22 : (t : ℕ) → push-size-lts.Need-add-t22 (push-size-calls t) (push-size-at t) push-size.Post
-push-size-add-t22 t c =
-    let f = first-at t (c .before) in
-    let w = first-sized t (c .before) in
-    let p = read-of t w in
-    omega (arith, f .left-is, f .inside .1, w .own-size .ensures, push-inside (own-at t p) (b-at t p), pre-at t p .1)
+push-size-add-t22 t c = omega (arith, first-end-small t (c .before))
 
 push-size-returns-4 : (t : ℕ) → push-size-lts.Need-returns-4 (push-size-calls t) (push-size-at t) push-size.Post
 push-size-returns-4 t c =
@@ -377,11 +380,7 @@ push-size-returns-5 : (t : ℕ) → push-size-lts.Need-returns-5 (push-size-call
 push-size-returns-5 t c = absurd (second-never t (c .before .before .before) (c .before .enum-told3 .given .1))
 
 push-size-add-t18 : (t : ℕ) → push-size-lts.Need-add-t18 (push-size-calls t) (push-size-at t) push-size.Post
-push-size-add-t18 t c =
-    let f = first-at t (second-first t c) in
-    let w = first-sized t (second-first t c) in
-    let p = read-of t w in
-    omega (arith, f .left-is, f .inside .1, w .own-size .ensures, push-inside (own-at t p) (b-at t p), pre-at t p .1)
+push-size-add-t18 t c = omega (arith, first-end-small t (second-first t c))
 
 push-size-add-t26 : (t : ℕ) → push-size-lts.Need-add-t26 (push-size-calls t) (push-size-at t) push-size.Post
 push-size-add-t26 t c =
