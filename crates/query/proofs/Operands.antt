@@ -11,7 +11,7 @@ use Rattle.tsparql.proofs.QuerySize.{nodeSize}
 use Rattle.query.specs.declared.Head.{Head}
 use Rattle.query.specs.declared.Head.the-variants as H
 use Rattle.query.specs.Answers.{nodeHead}
-use Rattle.query.specs.Parts.{mapRead, ownRead, nodeOperands}
+use Rattle.query.specs.Parts.{ownRead, nodeOperands}
 use Rattle.query.specs.Variables.{NodeSound, nodeOf}
 use Rattle.query.proofs.ReadLaws.{placeOf, fault-not-got}
 use Rattle.query.proofs.NodeParts.{node-inside}
@@ -82,7 +82,7 @@ own-sound s p sound e = go (readNode s) refl
         fault-not-got (sym e ∙ here)
     go (fault q) d = rw d at sound
 
--- ---- one and two operands
+-- ---- no operand, one and two
 
 -- a node has two operands at most
 pub operands-few : (h : Head) → nodeOperands h ≤ 2
