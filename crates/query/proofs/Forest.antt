@@ -66,19 +66,30 @@ operandsAt-positive (filter c x) = omega arith
 operandsAt-positive (projectTrust v x) = omega arith
 operandsAt-positive (ensureTrust l u x) = omega arith
 
--- a pattern set's patterns are read behind its head
+-- a pattern set's patterns, and a condition, are read behind the head
 abbrev pub PatternsRead : List ℕ → ℕ → Node → Type 0
 PatternsRead s own (patternSet ps) = (m : ℕ) × (readPatterns (length ps) (drop own s) ≡ got ps m)
 PatternsRead s own (join x y) = Unit {0}
-PatternsRead s own (leftJoin c x y) = Unit {0}
+PatternsRead s own (leftJoin c x y) = readCondition (drop own s) ≡ got c (conditionSize c)
 PatternsRead s own (union x y) = Unit {0}
-PatternsRead s own (filter c x) = Unit {0}
+PatternsRead s own (filter c x) = readCondition (drop own s) ≡ got c (conditionSize c)
 PatternsRead s own (projectTrust v x) = Unit {0}
 PatternsRead s own (ensureTrust l u x) = Unit {0}
+
+-- how many bytes a head has
+abbrev pub headLength : Head → ℕ
+headLength (H.PatternSet n) = 1
+headLength H.Join = 1
+headLength H.LeftJoin = 1
+headLength H.Union = 1
+headLength H.Filter = 1
+headLength (H.ProjectTrust v) = 1
+headLength (H.EnsureTrust l u) = 4
 
 -- the parts of a node x that was read, with its end
 pub record NodeFound (s : List ℕ) (x : Node) (end : ℕ) : Type 0 where
   pub own : ℕ
+  pub own-is : own ≡ headLength (nodeHead x)
   pub head-is : nodeHeadRead s ≡ got (nodeHead x) own
   pub before-is : beforeOperands s (nodeHead x) own ≡ got tt (operandsAt x end)
   pub operands-are : ReadsAll s (operandsAt x end) (operandsIn x) end
@@ -138,6 +149,7 @@ set-found s k x n head e = go (readPatterns k (drop 1 s)) refl (readPatterns-sou
         rw (is, ← end)
         (record {
           own = 1;
+          own-is = refl;
           head-is = head ∙ rw count;
           before-is = rw (count, h);
           operands-are = refl;
@@ -150,15 +162,17 @@ set-found s k x n head e = go (readPatterns k (drop 1 s)) refl (readPatterns-sou
 module _ (s : List ℕ) (x : Node) (n : ℕ) where
   -- two operands behind a first byte
   two-operands : (h : Head) (f : Node → Node → Node) → nodeHeadRead s ≡ got h 1
+      → headLength h ≡ 1
       → ((a b : Node) → (nodeHead (f a b) ≡ h) × (beforeOperands s (nodeHead (f a b)) 1 ≡ got tt 1)
       × (operandsIn (f a b) ≡ a ∷ b ∷ []) × (operandsAt (f a b) n ≡ 1) × PatternsRead s 1 (f a b))
       → twoNodes readNode s 1 f ≡ got x n → NodeFound s x n
-  two-operands h f head g e =
+  two-operands h f head one g e =
       let parts = two-found s 1 f x n e in
       let w = g (parts .0) (parts .1) in
       rw (parts .2)
       (record {
         own = 1;
+        own-is = rw (w .0) (sym one);
         head-is = head ∙ rw (w .0);
         before-is = w .1 ∙ rw (w .3);
         operands-are = rw (w .2, w .3) (parts .3);
@@ -179,7 +193,7 @@ module _ (s : List ℕ) (x : Node) (n : ℕ) where
           (λ k. set-found s (lowOf s) x n (rw (d, k)) (rw (d, k) at e))
           (λ k.
           let h = require-found (eqb (lowOf s) 0) (twoNodes readNode s 1 join) x n (rw (d, k) at e) in
-          two-operands H.Join join (rw (d, k, h .0)) (λ a b. (refl, refl, refl, refl, tt)) (h .1))
+          two-operands H.Join join (rw (d, k, h .0)) refl (λ a b. (refl, refl, refl, refl, tt)) (h .1))
           (λ k.
           let h = require-found (eqb (lowOf s) 0) (afterCondition s (λ c at. twoNodes readNode s at (leftJoin c))) x n (rw (d, k) at e) in
           let c = condition-found s (λ c at. twoNodes readNode s at (leftJoin c)) x n (h .1) in
@@ -187,14 +201,15 @@ module _ (s : List ℕ) (x : Node) (n : ℕ) where
           rw (parts .2)
           (record {
             own = 1;
+            own-is = refl;
             head-is = rw (d, k, h .0);
             before-is = condition-before s (c .0) (c .1);
             operands-are = parts .3;
-            patterns-are = tt;
+            patterns-are = c .1;
           }))
           (λ k.
           let h = require-found (eqb (lowOf s) 0) (twoNodes readNode s 1 union) x n (rw (d, k) at e) in
-          two-operands H.Union union (rw (d, k, h .0)) (λ a b. (refl, refl, refl, refl, tt)) (h .1))
+          two-operands H.Union union (rw (d, k, h .0)) refl (λ a b. (refl, refl, refl, refl, tt)) (h .1))
           (λ k.
           let h = require-found (eqb (lowOf s) 0) (afterCondition s (λ c at. oneNode readNode s at (filter c))) x n (rw (d, k) at e) in
           let c = condition-found s (λ c at. oneNode readNode s at (filter c)) x n (h .1) in
@@ -202,15 +217,16 @@ module _ (s : List ℕ) (x : Node) (n : ℕ) where
           rw (parts .1)
           (record {
             own = 1;
+            own-is = refl;
             head-is = rw (d, k, h .0);
             before-is = condition-before s (c .0) (c .1);
             operands-are = parts .2;
-            patterns-are = tt;
+            patterns-are = c .1;
           }))
           (λ k.
           let parts = one-found s 1 (projectTrust (lowOf s)) x n (rw (d, k) at e) in
           rw (parts .1)
-          (record { own = 1; head-is = rw (d, k); before-is = refl; operands-are = parts .2; patterns-are = tt }))
+          (record { own = 1; own-is = refl; head-is = rw (d, k); before-is = refl; operands-are = parts .2; patterns-are = tt }))
           (λ k.
           let h = require-found (eqb (lowOf s) 0) (boundedNode readNode s) x n (rw (d, k) at e) in
           let lower = bits24 s 1 / 4096 in
@@ -220,7 +236,14 @@ module _ (s : List ℕ) (x : Node) (n : ℕ) where
           (h .1) in
           let parts = one-found s 4 (ensureTrust lower upper) x n (g .1) in
           rw (parts .1)
-          (record { own = 4; head-is = rw (d, k, h .0, g .0); before-is = refl; operands-are = parts .2; patterns-are = tt }))
+          (record {
+            own = 4;
+            own-is = refl;
+            head-is = rw (d, k, h .0, g .0);
+            before-is = refl;
+            operands-are = parts .2;
+            patterns-are = tt;
+          }))
           (λ k. absurd (fault-not-got (rw (d, k) at e)))
           (λ k.
           absurd

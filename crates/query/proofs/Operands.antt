@@ -15,7 +15,7 @@ use Rattle.query.specs.Parts.{ownRead, nodeOperands}
 use Rattle.query.specs.Variables.{NodeSound, nodeOf}
 use Rattle.query.proofs.ReadLaws.{placeOf, fault-not-got}
 use Rattle.query.proofs.NodeParts.{node-inside}
-use Rattle.query.proofs.Forest.{ReadsAll, readsAll-inside, operandsIn, operandsAt, operandsAt-positive}
+use Rattle.query.proofs.Forest.{ReadsAll, readsAll-inside, operandsIn, operandsAt, operandsAt-positive, PatternsRead, headLength}
 use Rattle.query.proofs.Forest.{NodeFound, node-found, own-read, read-size, read-formed}
 
 -- the head is the node's, and the place that of its operands
@@ -27,6 +27,7 @@ pub record Own (s : List ℕ) (h : Head) (k : ℕ) : Type 0 where
   pub inside : k ≤ length s
   pub size-inside : nodeSize (nodeOf s) ≤ length s
   pub operands-are : ReadsAll s k (operandsIn (nodeOf s)) (nodeSize (nodeOf s))
+  pub parts-are : PatternsRead s (headLength h) (nodeOf s)
 
 -- what was read is the node of the part
 pub found-is : (s : List ℕ) (x : Node) (n : ℕ) → readNode s ≡ got x n → (nodeOf s ≡ x) × (nodeSize (nodeOf s) ≡ n)
@@ -65,6 +66,7 @@ own-found s h k sound e = go (readNode s) refl
           );
           size-inside = omega (arith, is .1, end, node-inside s);
           operands-are = operands;
+          parts-are = rw (is .0, ← o .0, ← f .own-is) (f .patterns-are);
         }
     go (fault p) d = absurd (rw d at sound)
 
@@ -76,7 +78,7 @@ own-sound s p sound e = go (readNode s) refl
     go (got x n) d = fault-not-got (sym e ∙ own-read (node-found s x n d))
     go (fault q) d = rw d at sound
 
--- ---- one and two operands
+-- ---- no operand, one and two
 
 -- a node has two operands at most
 pub operands-few : (h : Head) → nodeOperands h ≤ 2

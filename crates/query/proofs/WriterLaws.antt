@@ -1,4 +1,5 @@
--- What the writers leave in an output: all bytes where they fit (`stored`), else none (`misfits`). Assumes nothing.
+-- What the writers leave in an output: all bytes where they fit (`stored`), else none (`misfits`), and one writer's bytes behind
+-- another's (`wrote-behind`). Assumes nothing.
 use mathlib.Core.Path.{_≡_, refl, sym, ap, _∙_}
 use mathlib.Core.Bool.{Bool, true, false, _&&_, cond}
 use mathlib.Core.List.{List, [], _++_, append-nil, append-assoc}
@@ -17,7 +18,7 @@ use Rattle.query.specs.Writers.{slotsBytes, soundPatternBytes, Wrote, Wr
 use Rattle.query.proofs.ReadLaws.{part-drop}
 
 -- bytes stored one by one from the front
-pub wrote-sets : (ws out : List ℕ) → length ws ≤ length out → Wrote ws out (sets out 0 ws) (length ws)
+wrote-sets : (ws out : List ℕ) → length ws ≤ length out → Wrote ws out (sets out 0 ws) (length ws)
 wrote-sets ws out h = record { size = refl; bytes = sets-eq ws out 0 (rw zero-add h) ∙ rw zero-add }
 
 fits-wrote : (ws out out′ : List ℕ) (r : ℕ) → length ws ≤ length out → Wrote ws out out′ r → WroteIfFits ws out out′ r

@@ -12,6 +12,8 @@ use table::check_table;
 
 // The most bytes of a query that is evaluated.
 const EVALUATE_LIMIT: usize = 5120;
+// The number of an answer that is no refusal.
+const NO_REFUSAL: u32 = 0;
 
 // Number and place of the first refusal that applies; both are 0 where none does.
 #[repr(C)]
@@ -33,7 +35,7 @@ pub extern "C" fn randwyler_check(table: &[u8], query: &[u8]) -> Refusal
     }
     match check_query(query, EVALUATE_LIMIT) {
         QueryAnswer::Sound => Refusal {
-            number: 0,
+            number: NO_REFUSAL,
             place: 0,
         },
         QueryAnswer::Refused { number, place } => Refusal {
@@ -58,7 +60,7 @@ pub extern "C" fn randwyler_rewrite(query: &[u8], output: &mut [u8]) -> Rewritte
 {
     match rewrite(query, output) {
         RewriteAnswer::Written(length) => Rewritten {
-            number: 0,
+            number: NO_REFUSAL,
             place: 0,
             length: length as u64,
         },

@@ -2,29 +2,27 @@
 -- stands before the operands of a node that was read is the part up to them (`own-bytes`). Assumes nothing.
 use mathlib.Core.Path.{_≡_, refl, sym, ap, _∙_}
 use mathlib.Core.Bool.{Bool, true, false, cond}
-use mathlib.Core.List.{List, [], _∷_, _++_, append-nil, append-assoc}
-use Prim.Native.Nat.{ℕ, suc, _+_, _*_, _≤_, _<_}
+use mathlib.Core.List.{List, [], _∷_, _++_, append-nil}
+use Prim.Native.Nat.{ℕ, _+_, _*_, _≤_}
 use native.Mathlib.Omega.{arith}
 use borrow.Author.Tests.{le-leb}
 use lib.Dec.{ltb}
 use lib.ListN.{length, take, length-append}
 use lib.Seq.{take-take, take-append-seam}
 use Rattle.tsparql.specs.Query.{Node, patternSet, join, leftJoin, union, filter, projectTrust, ensureTrust}
-use Rattle.tsparql.specs.Push.{TrustBound, noBound, between, meet, trustFloor, push}
+use Rattle.tsparql.specs.Push.{TrustBound, noBound, between, push}
 use Rattle.tsparql.specs.Writing.{firstByte, threeBytes, conditionBytes, nodeBytes}
 use Rattle.tsparql.specs.Reading.{Read, got, fault, readNode}
-use Rattle.tsparql.specs.WellFormed.{Bytes, NodeFormed}
+use Rattle.tsparql.specs.WellFormed.{Bytes}
 use Rattle.tsparql.proofs.QuerySize.{nodeSize}
 use Rattle.tsparql.proofs.WrittenRead.{ReadsNode, readNode-sound}
-use Rattle.tsparql.proofs.PushQuery.{BoundFormed, trustFloor-formed, meet-formed}
 use Rattle.query.specs.declared.Head.{Head}
 use Rattle.query.specs.declared.Head.the-variants as H
 use Rattle.query.specs.Writers.{boundsBytes, Wrote, WroteIfFits}
 use Rattle.query.specs.Answers.{nodeHead}
 use Rattle.query.specs.Variables.{NodeSound, nodeOf}
-use Rattle.query.proofs.ReadLaws.{fault-not-got}
 use Rattle.query.proofs.Forest.{operandsIn, operandsAt}
-use Rattle.rewriting.specs.Bounds.{isBound, isBelow, firstBound, secondBound, wrapped, stays, wrapBytes, ownPush, ownSize}
+use Rattle.rewriting.specs.Bounds.{firstBound, secondBound, wrapped, stays, wrapBytes, ownPush, ownSize}
 
 -- ---- the bytes of a node in parts
 

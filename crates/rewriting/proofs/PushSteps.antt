@@ -1,7 +1,7 @@
 -- The steps of the recursion over a node's parts: what is known of the parts of its operands, and the push put together from theirs, by
 -- sizes and by bytes. Assumes nothing.
 use mathlib.Core.Path.{_≡_, refl, sym, ap, _∙_}
-use mathlib.Core.List.{List, [], _∷_, _++_, append-nil}
+use mathlib.Core.List.{List, _++_, append-nil}
 use Prim.Native.Nat.{ℕ, zero, suc, _+_, _-_, _*_, _≤_, _<_}
 use native.Mathlib.Omega.{arith}
 use lib.ListN.{length, take, drop, length-append, length-drop}
@@ -14,12 +14,11 @@ use Rattle.tsparql.specs.Rewrite.{rewriteLimit}
 use Rattle.tsparql.proofs.QuerySize.{nodeSize}
 use Rattle.tsparql.proofs.PushQuery.{push-size-≤}
 use Rattle.query.specs.declared.Head.{Head}
-use Rattle.query.specs.Answers.{nodeHead}
 use Rattle.query.specs.Parts.{nodeOperands}
 use Rattle.query.specs.Variables.{NodeSound, nodeOf}
 use Rattle.query.proofs.ReadLaws.{part-drop, fault-not-got}
 use Rattle.query.proofs.Forest.{operandsIn}
-use Rattle.query.proofs.Operands.{Own, OneOperand, TwoOperands, operands-few, no-operand, one-operand, two-operands}
+use Rattle.query.proofs.Operands.{Own, TwoOperands, operands-few, no-operand, one-operand, two-operands}
 use Rattle.rewriting.specs.declared.Pushed.{Pushed}
 use Rattle.rewriting.specs.declared.Pushed.the-variants as P
 use Rattle.rewriting.specs.Bounds.{firstBound, secondBound, ownPush, ownSize}

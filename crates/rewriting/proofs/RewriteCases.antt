@@ -1,21 +1,20 @@
 -- The call's answer by its cases: the query is refused, the output is too short, or the push is written. Assumes nothing.
-use mathlib.Core.Path.{_≡_, refl, sym, ap, _∙_}
-use mathlib.Core.Bool.{true, false}
-use mathlib.Core.List.{List, [], _∷_}
+use mathlib.Core.Path.{_≡_, sym, ap, _∙_}
+use mathlib.Core.Bool.{false}
+use mathlib.Core.List.{List}
 use Prim.Native.Nat.{ℕ, _≤_, _<_}
 use native.Mathlib.Omega.{arith}
 use borrow.Author.Tests.{lt-ltb, le-ltb, eqb-true}
 use lib.ListN.{length}
 use Rattle.tsparql.specs.Push.{noBound, push}
 use Rattle.tsparql.specs.Writing.{nodeBytes}
-use Rattle.tsparql.specs.Reading.{got, readNode, queryNode}
+use Rattle.tsparql.specs.Reading.{queryNode}
 use Rattle.tsparql.specs.Check.{Refusal, refuse, Passes, passes, queryRefusal}
-use Rattle.tsparql.specs.Rewrite.{rewriteLimit, rewriting, rewriteRefusal, wroteInto, wroteNothing, rewrite}
+use Rattle.tsparql.specs.Rewrite.{rewriteLimit, rewriting, rewriteRefusal, wroteNothing, rewrite}
 use Rattle.tsparql.proofs.QueryLaws.{query-checked}
 use Rattle.tsparql.proofs.RefusalLaws.{orElse-second}
 use Rattle.tsparql.proofs.RewriteLaws.{rewrite-passes}
 use Rattle.query.specs.Variables.{NodeSound, nodeOf}
-use Rattle.query.specs.Writers.{Wrote}
 use Rattle.query.proofs.ReadLaws.{fault-not-got}
 use Rattle.query.proofs.Forest.{query-reads}
 use Rattle.scope.specs.declared.QueryAnswer.{QueryAnswer}
@@ -23,7 +22,7 @@ use Rattle.scope.specs.declared.QueryAnswer.the-variants as A
 use Rattle.scope.specs.Variables.{soundIn, refusalIn, Checked}
 use Rattle.rewriting.specs.declared.Pushed.{Pushed}
 use Rattle.rewriting.specs.declared.Pushed.the-variants as P
-use Rattle.rewriting.specs.Answers.{Pushes, pushedIn, rewrittenIn, answerOf}
+use Rattle.rewriting.specs.Answers.{Pushes, rewrittenIn, answerOf}
 
 module _ (s out : List ℕ) (r : QueryAnswer) (checked : Checked rewriteLimit s r) where
   -- 5 to 7

@@ -17,11 +17,13 @@ add-result c = search needs
 
 returns : tie.Need-returns
 returns c =
-    rw (sym (c .before .before .before .stays-put .ensures) ∙ c .before .before .if1 .taken, sym (c .before .wraps .ensures) ∙ c .if2 .taken)
+    let on = sym (c .before .before .before .stays-put .ensures) ∙ c .before .before .if1 .taken in
+    rw (on, sym (c .before .wraps .ensures) ∙ c .if2 .taken)
 
 returns-2 : tie.Need-returns-2
 returns-2 c =
-    rw (sym (c .before .before .before .stays-put .ensures) ∙ c .before .before .if1 .taken, sym (c .before .wraps .ensures) ∙ c .if2 .left)
+    let on = sym (c .before .before .before .stays-put .ensures) ∙ c .before .before .if1 .taken in
+    rw (on, sym (c .before .wraps .ensures) ∙ c .if2 .left)
 
 returns-3 : tie.Need-returns-3
 returns-3 c = search needs

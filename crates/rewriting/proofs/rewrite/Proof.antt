@@ -1,6 +1,7 @@
 -- By the check, and by the size of the push. Assumes nothing.
 use mathlib.Core.Path.{_≡_, sym, ap, _∙_}
 use native.Mathlib.Omega.{arith}
+use borrow.Author.Needs.{needs}
 use lib.ListN.{length}
 use Rattle.tsparql.specs.Push.{noBound, push}
 use Rattle.tsparql.specs.Writing.{nodeBytes}
@@ -10,20 +11,24 @@ use Rattle.query.specs.Variables.{nodeOf}
 use Rattle.query.proofs.ReadLaws.{fault-not-got}
 use Rattle.rewriting.specs.Answers.{pushedIn, rewrittenIn}
 use Rattle.rewriting.proofs.RewriteCases.{query-refused, query-passes, whole, too-short, all-written}
-use borrow.Author.Needs.{needs}
 use Rattle.rewriting.proofs.rewrite.Statement.{statement}
 use Rattle.rewriting.proofs.rewrite.Tie as tie
-use Rattle.scope.proofs.check_query.Reads as check-query-reads
-use Rattle.rewriting.proofs.answer_of.Reads as answer-of-reads
-use Rattle.rewriting.proofs.push_node.Reads as push-node-reads
-use Rattle.rewriting.proofs.push_size.Reads as push-size-reads
 
 -- the query passes
-passes-at : (c : tie.After-enum-told) → Passes (queryRefusal rewriteLimit (c .before .before .before .before .before .args .q .now))
-passes-at c = query-passes (c .before .before .before .before .before .args .q .now) (c .before .before .before .before .before .args .out .now) _ (c .before .before .check-query .ensures) (c .enum-told .given .1)
+abbrev start-of : tie.After-enum-told → tie.Start
+start-of c = c .before .before .before .before .before
+
+passes-at : (c : tie.After-enum-told) → Passes (queryRefusal rewriteLimit (start-of c .args .q .now))
+passes-at c =
+    let a = start-of c .args in
+    query-passes (a .q .now) (a .out .now) _ (c .before .before .check-query .ensures) (c .enum-told .given .1)
 
 -- the size is the push's
-size-at : (c : tie.After-known-told2) → c .before .n .given .0 .0 ≡ length (nodeBytes (push noBound (nodeOf (c .before .before .before .before .before .before .before .before .before .args .q .now))))
+abbrev passed-of : tie.After-known-told2 → tie.After-enum-told
+passed-of c = c .before .before .before .before
+
+size-at : (c : tie.After-known-told2)
+    → c .before .n .given .0 .0 ≡ length (nodeBytes (push noBound (nodeOf (start-of (passed-of c) .args .q .now))))
 size-at c = let e = sym (ap pushedIn (c .before .n .given .1)) ∙ c .before .before .before .push-size .ensures in cc
 
 check-query-requires : tie.Need-check-query-requires
@@ -34,7 +39,8 @@ enum-known-number c = search needs
 
 returns : tie.Need-returns
 returns c =
-    query-refused (c .before .before .before .before .before .before .args .q .now) (c .before .before .before .before .before .before .args .out .now) _ (c .before .before .before .check-query .ensures) (c .before .number .given .1)
+    let a = c .before .before .before .before .before .before .args in
+    query-refused (a .q .now) (a .out .now) _ (c .before .before .before .check-query .ensures) (c .before .number .given .1)
 
 enum-told : tie.Need-enum-told
 enum-told c = search needs
@@ -57,12 +63,15 @@ returns-2 c =
 
 returns-3 : tie.Need-returns-3
 returns-3 c =
-    too-short (c .before .before .before .before .before .before .before .before .before .before .args .q .now) (c .before .before .before .before .before .before .before .before .before .before .args .out .now) (passes-at (c .before .before .before .before .before)) (size-at (c .before)) (omega arith)
+    let p = passed-of (c .before) in
+    let a = start-of p .args in
+    too-short (a .q .now) (a .out .now) (passes-at p) (size-at (c .before)) (omega arith)
 
 push-node-requires : tie.Need-push-node-requires
 push-node-requires c κs =
-    let w = whole _ (passes-at (c .before .before .before .before .before .before)) in
-    record { sound = w .sound; short = w .short; formed = tt; fits = omega (arith, size-at (c .before .before)) }
+    let sized = c .before .before in
+    let w = whole _ (passes-at (passed-of sized)) in
+    record { sound = w .sound; short = w .short; formed = tt; fits = omega (arith, size-at sized) }
 
 answer-of-requires-2 : tie.Need-answer-of-requires-2
 answer-of-requires-2 c κs = search needs
@@ -72,9 +81,12 @@ same-length c = search needs
 
 returns-4 : tie.Need-returns-4
 returns-4 c =
-    let a = c .before .before .before .before .before .before .before .before .before .before .before .before .before .before .before .args in
-    ap (λ r. rewrittenIn r (c .before .before .before .push-node .last .1 .1 .0)) (c .answer-of2 .ensures)
-    ∙ all-written (a .q .now) (a .out .now) (passes-at (c .before .before .before .before .before .before .before .before .before .before)) _ _ (omega (arith, size-at (c .before .before .before .before .before .before))) (c .before .before .before .push-node .ensures)
+    let pushed = c .before .before .before in
+    let sized = pushed .before .before .before in
+    let p = passed-of sized in
+    let a = start-of p .args in
+    ap (λ r. rewrittenIn r (pushed .push-node .last .1 .1 .0)) (c .answer-of2 .ensures)
+    ∙ all-written (a .q .now) (a .out .now) (passes-at p) _ _ (omega (arith, size-at sized)) (pushed .push-node .ensures)
 
 pub rewrite-spec : {M : Type 1} → statement M
 rewrite-spec =

@@ -1,0 +1,11 @@
+-- The laws of this crate.
+-- Words and rows, there and back; rows of a row space; what later layers need
+pub mod RowWordLaws
+-- The operators on rows, word by word
+pub mod OperatorLaws
+-- Runs of words that a loop writes
+pub mod PasteLaws
+-- Passes that replace rows from the front
+pub mod CompactionLaws
+-- Rows that are written behind others
+pub mod AppendLaws
