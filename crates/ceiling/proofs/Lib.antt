@@ -3,3 +3,4 @@ pub mod CutLaws
 pub mod FigureLaws
 pub mod NodeLaws
 pub mod AnswerLaws
+pub mod CheckedLaws
