@@ -1,0 +1,3 @@
+-- What the contracts of evaluation cite besides the definitions of `tsparql`.
+pub mod Operators
+pub mod Evaluations
