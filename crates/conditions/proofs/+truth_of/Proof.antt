@@ -18,14 +18,14 @@ use Rattle.query.specs.Answers.{conditionFound}
 use Rattle.query.specs.Parts.{mapRead, conditionHeadRead, conditionOperands}
 use Rattle.query.proofs.ReadLaws.{on-part, placeOf, place-part, faultIn-≤}
 use Rattle.query.proofs.ConditionParts.{condition-inside, condition-head-inside}
+use Rattle.query.proofs.condition_fault.Reads as condition-fault-reads
+use Rattle.query.proofs.condition_operands.Reads as condition-operands-reads
 use Rattle.query.proofs.read_condition_head.Reads as read-condition-head-reads
 use Rattle.rows.specs.RowWords.{rowAt}
 use Rattle.conditions.specs.Truths.{truthIn, HeadFormed, headTruth, judgedFound}
 use Rattle.conditions.proofs.ConditionLaws.{judgedAt, head-fault, head-formed, none-judged, first-fault, one-judged, second-fault}
 use Rattle.conditions.proofs.ConditionLaws.{two-judged, fault-place, judges-truth, judges-refused}
-use Rattle.conditions.proofs.head_place.Reads as head-place-reads
 use Rattle.conditions.proofs.head_truth.Reads as head-truth-reads
-use Rattle.conditions.proofs.operands.Reads as operands-reads
 use Rattle.conditions.proofs.refused_place.Reads as refused-place-reads
 use Rattle.conditions.proofs.truth_of.Reads as truth-of
 use Rattle.conditions.proofs.truth_of.Kinds as truth-of-kinds
@@ -47,10 +47,10 @@ module _ (t : ℕ) where
   calls = (
     read-condition-head-reads.Asked,
     read-condition-head-reads.Learnt,
-    head-place-reads.Asked,
-    head-place-reads.Learnt,
-    operands-reads.Asked,
-    operands-reads.Learnt,
+    condition-fault-reads.Asked,
+    condition-fault-reads.Learnt,
+    condition-operands-reads.Asked,
+    condition-operands-reads.Learnt,
     head-truth-reads.Asked,
     head-truth-reads.Learnt,
     below,
@@ -107,7 +107,7 @@ module _ (t : ℕ) where
 
   -- the head has an operand
   one-or-two : (c : AtFirst) → 1 ≤ conditionOperands (head (head₁ c))
-  one-or-two c = omega (arith, c .before .before .before .operands .ensures)
+  one-or-two c = omega (arith, c .before .before .before .condition-operands .ensures)
 
   -- ---- its truth, and the place behind it
 
@@ -152,7 +152,7 @@ module _ (t : ℕ) where
 
   -- the head has two operands
   two : (c : AtSecond) → 2 ≤ conditionOperands (head (head₂ c))
-  two c = omega (arith, c .before .before .before .before .before .before .before .before .before .operands .ensures)
+  two c = omega (arith, c .before .before .before .before .before .before .before .before .before .condition-operands .ensures)
 
   -- ---- the needs
 
@@ -165,18 +165,18 @@ module _ (t : ℕ) where
   enum-told : lts.Need-enum-told calls at-entry truth-of.Post
   enum-told c = search needs
 
-  head-place-requires : lts.Need-head-place-requires calls at-entry truth-of.Post
-  head-place-requires c κs = search needs
+  condition-fault-requires : lts.Need-condition-fault-requires calls at-entry truth-of.Post
+  condition-fault-requires c κs = search needs
 
   returns : lts.Need-returns calls at-entry truth-of.Post
   returns c =
       let q = c .before .before .before .before .before .before .args .q .now in
-      let told = fault-place (ap conditionFound (c .before .enum-told .given .1)) (c .head-place .ensures) in
+      let told = fault-place (ap conditionFound (c .before .enum-told .given .1)) (c .condition-fault .ensures) in
       let bad = sym (c .before .before .before .read-condition-head .ensures) ∙ told in
       judges-refused q _ _ (head-fault q bad)
 
-  operands-requires : lts.Need-operands-requires calls at-entry truth-of.Post
-  operands-requires c κs = search needs
+  condition-operands-requires : lts.Need-condition-operands-requires calls at-entry truth-of.Post
+  condition-operands-requires c κs = search needs
 
   head-truth-requires : lts.Need-head-truth-requires calls at-entry truth-of.Post
   head-truth-requires c κs = head-asked (c .before .before .before)
@@ -184,7 +184,7 @@ module _ (t : ℕ) where
   returns-2 : lts.Need-returns-2 calls at-entry truth-of.Post
   returns-2 c =
       let h = c .before .before .before .before in
-      let none = sym (c .before .before .operands .ensures) ∙ c .before .if1 .taken in
+      let none = sym (c .before .before .condition-operands .ensures) ∙ c .before .if1 .taken in
       judges-truth (part h) (cells h) _ (headTruth (cells h) (head h) holds holds) _ (c .head-truth .ensures)
       (none-judged _ _ _ _ _ _ (head-read h) none)
 
@@ -233,8 +233,9 @@ module _ (t : ℕ) where
 
   returns-4 : lts.Need-returns-4 calls at-entry truth-of.Post
   returns-4 c =
-      let h = c .before .before .before .before .before .before .before .before .before .before in
-      let one = sym (c .before .before .before .before .before .before .before .before .operands .ensures) ∙ c .before .if2 .taken in
+      let counted = c .before .before .before .before .before .before .before .before in
+      let h = counted .before .before in
+      let one = sym (counted .condition-operands .ensures) ∙ c .before .if2 .taken in
       let u = truthIn (c .before .before .before .a .given .0 .0) in
       judges-truth (part h) (cells h) _ (headTruth (cells h) (head h) u u) _ (c .head-truth2 .ensures)
       (one-judged _ _ _ _ _ _ _ (head-read h) one (first-truth (c .before .before .before)))
@@ -304,9 +305,9 @@ pub +truth-of-spec : {M : Type 1} → statement M
     (read-condition-head-requires t)
     (enum-known-h t)
     (enum-told t)
-    (head-place-requires t)
+    (condition-fault-requires t)
     (returns t)
-    (operands-requires t)
+    (condition-operands-requires t)
     (head-truth-requires t)
     (returns-2 t)
     (sub-truth-of t)
