@@ -22,7 +22,7 @@ use Rattle.ceiling.proofs.CheckedLaws.{checked-answered}
 use Rattle.patterns.specs.Matching.{viewOf}
 use Rattle.randwyler.specs.declared.CheckAnswer.{CheckAnswer}
 use Rattle.randwyler.specs.declared.CheckAnswer.the-variants.{Sound, Refused}
-use Rattle.randwyler.specs.Answers.{soundIn, checkedIn, viewIn, Checked}
+use Rattle.randwyler.specs.Answers.{soundIn, checkedIn, viewIn, Checked, Ready}
 
 -- ---- both
 
@@ -62,6 +62,9 @@ module _ (t s : List ℕ) (v : View) (h : Checked t s (Sound v)) where
 
   pub view-inside : 9 * v .records ≤ length t
   view-inside = let e : v .records ≡ length t / 9 = ap (λ w. w .records) view-whole in omega arith
+
+  pub checked-ready : Ready (viewOf v) t s
+  checked-ready = record { passed = passed; seen = view-whole }
 
   pub ceiling-answers : {c n : ℕ} → CeilingIs (viewOf v) t s (CR.Ceiling c n) → ceilingAnswered c ≡ ceilingCall t s
   ceiling-answers {c} {n} k =

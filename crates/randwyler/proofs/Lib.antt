@@ -1,2 +1,3 @@
 -- The laws that the calls' proofs cite.
 pub mod Checks
+pub mod Evaluations

@@ -3,18 +3,26 @@ use mathlib.Core.Path.{_≡_}
 use mathlib.Core.Bool.{Bool, true, false, cond}
 use mathlib.Core.List.{List}
 use Prim.Native.Nat.{ℕ}
+use lib.ListN.{length}
 use Rattle.tsparql.specs.Table as T
-use Rattle.tsparql.specs.Table.{wholeTable}
+use Rattle.tsparql.specs.Table.{wholeTable, factsIn}
 use Rattle.tsparql.specs.Check as D
-use Rattle.tsparql.specs.Check.{refuse, noRefusal, passes, check}
+use Rattle.tsparql.specs.Check.{refuse, noRefusal, Passes, passes, check}
 use Rattle.tsparql.specs.Rewrite as W
 use Rattle.tsparql.specs.Calls as C
+use Rattle.tsparql.specs.Calls.{raiseOne, tallied}
+use Rattle.tsparql.specs.Evaluate as E
+use Rattle.tsparql.specs.Evaluate.{refusedWith, answer}
+use Rattle.tsparql.specs.PatternSets.{least}
+use Rattle.tsparql.specs.Reading.{queryNode}
 use Rattle.table.specs.Answers.{noRecords}
 use Rattle.randwyler.specs.declared.CheckAnswer.{CheckAnswer}
 use Rattle.randwyler.specs.declared.CheckAnswer.the-variants.{Sound, Refused}
 use Rattle.randwyler.specs.declared.Refusal.{Refusal}
 use Rattle.randwyler.specs.declared.Rewritten.{Rewritten}
 use Rattle.randwyler.specs.declared.Ceiling.{Ceiling}
+use Rattle.randwyler.specs.declared.Tally.{Tally}
+use Rattle.randwyler.specs.declared.Evaluated.{Evaluated}
 
 -- ---- the check of both
 
@@ -49,3 +57,33 @@ rewrittenIn r out = record { refusal = refuse (r .number) (r .place); size = r .
 -- number, place and ceiling of an answer
 abbrev pub ceilingIn : Ceiling → C.CeilingAnswer
 ceilingIn r = record { refusal = refuse (r .number) (r .place); ceiling = r .ceiling }
+
+-- ---- evaluation
+
+abbrev pub tallyIn : Tally → C.Tally
+tallyIn a = record { answered = a .answered; refused = a .refused }
+
+-- refusal and counts of an answer, with the row space at the end, and the tally
+abbrev pub evaluatedIn : Evaluated → List ℕ → C.EvaluateAnswer
+evaluatedIn r ws =
+    record {
+      evaluated =
+          record { refusal = refuse (r .number) (r .place); rows = r .rows; peak = r .peak; pairs = r .pairs; rowSpace = ws };
+      tally = tallyIn (r .tally);
+    }
+
+-- a refusal with all counts 0, counted as refused; the row space is whatever it is
+abbrev pub RefusedWith : ℕ → ℕ → C.Tally → Evaluated → Type 0
+RefusedWith n p a r =
+    (ws : List ℕ) → evaluatedIn r ws ≡ record { evaluated = refusedWith (refuse n p) ws; tally = raiseOne false a }
+
+-- a table and a query that passed the check
+pub record Ready (v : T.View) (t s : List ℕ) : Type 0 where
+  pub passed : Passes (check t s)
+  pub seen : v ≡ wholeTable t
+
+-- the answer to a checked query, counted by its refusal
+abbrev pub Answered : T.View → List ℕ → List ℕ → C.Tally → List ℕ → List ℕ → Evaluated → Type 0
+Answered v t s a ws out r =
+    let e : E.Evaluated = answer least (factsIn v t) (queryNode s) (length ws) in
+    evaluatedIn r out ≡ record { evaluated = e; tally = tallied a (e .refusal) }

@@ -2,10 +2,15 @@
 ghost use mathlib.Core.Path.{_≡_};
 ghost use Rattle.tsparql.specs.Check.{refuse, check};
 ghost use Rattle.tsparql.specs.Rewrite as D;
-ghost use Rattle.tsparql.specs.Calls.{ceilingCall, ceilingRefused};
+ghost use mathlib.Core.Bool.{true, false};
+ghost use Rattle.tsparql.specs.Calls.{ceilingCall, ceilingRefused, raised, raiseOne, evaluate};
+ghost use Rattle.patterns.specs.Matching.{viewOf};
 ghost use Rattle.randwyler.specs.Answers.{Checked, refusalIn, rewrittenIn, ceilingIn};
+ghost use Rattle.randwyler.specs.Answers.{tallyIn, evaluatedIn, RefusedWith, Ready, Answered};
 use ceiling::CeilingRead;
 use ceiling::ceiling_node;
+use evaluation::QueryRows;
+use evaluation::answer;
 use rewriting::RewriteAnswer;
 use rewriting::rewrite;
 use scope::QueryAnswer;
@@ -129,5 +134,107 @@ pub extern "C" fn randwyler_ceiling_of(table: &[u8], query: &[u8]) -> Ceiling
                 ceiling,
             },
         },
+    }
+}
+
+// ---- evaluation
+
+// How many evaluations were answered, and how many refused; each stops at 4,294,967,295.
+#[repr(C)]
+pub struct Tally {
+    pub answered: u32,
+    pub refused: u32,
+}
+
+// A refusal, or the counts of an answer; what does not apply is 0. The tally comes back with one of its two raised.
+#[repr(C)]
+pub struct Evaluated {
+    pub number: u32,
+    pub place: u64,
+    pub rows: u32,
+    pub peak: u32,
+    pub pairs: u64,
+    pub tally: Tally,
+}
+
+// One more, stopping at the greatest value.
+fn one_more(n: u32) -> u32
+    ensures { λ r. ⌜ r ≡ raised n ⌝ }
+{
+    if n < 4294967295 { n + 1 } else { n }
+}
+
+fn with_answered(a: Tally) -> Tally
+    ensures { λ r. ⌜ tallyIn r ≡ raiseOne true (tallyIn a) ⌝ }
+{
+    Tally {
+        answered: one_more(a.answered),
+        refused: a.refused,
+    }
+}
+
+fn with_refused(a: Tally) -> Tally
+    ensures { λ r. ⌜ tallyIn r ≡ raiseOne false (tallyIn a) ⌝ }
+{
+    Tally {
+        answered: a.answered,
+        refused: one_more(a.refused),
+    }
+}
+
+// A refusal is counted as refused.
+fn evaluation_refused(number: u32, place: usize, a: Tally) -> Evaluated
+    ensures { λ r. ⌜ RefusedWith number place (tallyIn a) r ⌝ }
+{
+    let tally = with_refused(a);
+    Evaluated {
+        number,
+        place: place as u64,
+        rows: 0,
+        peak: 0,
+        pairs: 0,
+        tally,
+    }
+}
+
+// The answer to a checked query, counted in the tally.
+fn evaluate_checked(
+    table: &[u8],
+    view: View,
+    query: &[u8],
+    space: &mut [u32],
+    tally: Tally,
+) -> Evaluated
+    requires { ⌜ Ready (viewOf view) (now table) (now query) ⌝ }
+    ensures { λ r. ⌜ Answered (viewOf view) (now (table .entry)) (now (query .entry)) (tallyIn tally) (now (space .entry)) (now (space .exit)) r ⌝ }
+{
+    match answer(table, view, query, space) {
+        QueryRows::Refused { number, place } => evaluation_refused(number, place, tally),
+        QueryRows::Rows { rows, peak, pairs } => Evaluated {
+            number: NO_REFUSAL,
+            place: 0,
+            rows,
+            peak,
+            pairs,
+            tally: with_answered(tally),
+        },
+    }
+}
+
+// The evaluation of a query over a table in a lent row space: refusals 1 to 7 with the row space untouched, 8 with it all zero; else the
+// rows at the front and zeros behind them.
+#[no_mangle]
+pub extern "C" fn randwyler_evaluate(
+    table: &[u8],
+    query: &[u8],
+    space: &mut [u32],
+    tally: Tally,
+) -> Evaluated
+    ensures { λ r. ⌜ evaluatedIn r (now (space .exit)) ≡ evaluate (tallyIn tally) (now (table .entry)) (now (query .entry)) (now (space .entry)) ⌝ }
+{
+    let c = check_both(table, query);
+    match c {
+        CheckAnswer::Refused { number, place } => evaluation_refused(number, place, tally),
+        CheckAnswer::Sound(view) => evaluate_checked(table, view, query, space, tally),
     }
 }

@@ -1,47 +1,60 @@
+-- By the answer to the checked query. Assumes nothing.
+use mathlib.Core.Path.{_∙_, subst}
+use lib.ListN.{length}
+use Rattle.tsparql.specs.Table.{factsIn}
+use Rattle.query.specs.Variables.{nodeOf}
+use Rattle.patterns.specs.Matching.{viewOf}
+use Rattle.evaluation.specs.Evaluations.{Answers}
+use Rattle.randwyler.specs.Answers.{tallyIn}
+use Rattle.randwyler.proofs.Evaluations.{ready-seen, ready-node, counted}
 use borrow.Author.Needs.{needs}
 use Rattle.randwyler.proofs.evaluate_checked.Statement.{statement}
 use Rattle.randwyler.proofs.evaluate_checked.Tie as tie
-use Rattle.randwyler.proofs.evaluate_checked.Reads as reads
-use Rattle.randwyler.proofs.evaluate_checked.Lts as lts
 use Rattle.evaluation.proofs.answer.Reads as answer-reads
 use Rattle.randwyler.proofs.evaluation_refused.Reads as evaluation-refused-reads
 use Rattle.randwyler.proofs.with_answered.Reads as with-answered-reads
 
--- src/lib.rt:205:11
 answer-requires : tie.Need-answer-requires
-answer-requires c κs = ?
+answer-requires c κs =
+    let a = c .before .before .before .before .args in
+    let n = ready-node (viewOf (a .view)) (a .table .now) (a .query .now) (c .before .before .before .before .pre) in
+    (ready-seen (viewOf (a .view)) (a .table .now) (a .query .now) (c .before .before .before .before .pre), n .0, n .2)
 
--- src/lib.rt:206:30
 enum-known-number : tie.Need-enum-known-number
 enum-known-number c = search needs
 
--- src/lib.rt:206:49
 evaluation-refused-requires : tie.Need-evaluation-refused-requires
 evaluation-refused-requires c κs = search needs
 
--- src/lib.rt:208:13
 enum-known-rows : tie.Need-enum-known-rows
 enum-known-rows c = search needs
 
--- src/lib.rt:217:20
 with-answered-requires : tie.Need-with-answered-requires
 with-answered-requires c κs = search needs
 
--- src/lib.rt:201:1
 same-length : tie.Need-same-length
 same-length c = search needs
 
--- src/lib.rt:201:1
 returns : tie.Need-returns
-returns c = ?
+returns c =
+    let a = c .before .before .before .before .before .before .before .before .before .before .before .args in
+    let out = c .before .before .before .before .before .before .answer .last .1 .1 .1 .0 in
+    c .evaluation-refused .ensures out
+    ∙ counted (viewOf (a .view)) (a .table .now) (a .query .now) (tallyIn (a .tally)) (a .space .now) out _ (c .before .before .before .before .before .before .before .before .before .before .before .pre)
+    (subst (λ r. Answers (factsIn (viewOf (a .view)) (a .table .now)) (nodeOf (a .query .now)) (length (a .space .now)) out r)
+    (c .before .before .number .given .1) (c .before .before .before .before .before .before .answer .ensures))
 
--- src/lib.rt:201:1
 same-length-2 : tie.Need-same-length-2
 same-length-2 c = search needs
 
--- src/lib.rt:201:1
 returns-2 : tie.Need-returns-2
-returns-2 c = ?
+returns-2 c =
+    let a = c .before .before .before .before .before .before .before .before .before .before .before .args in
+    let out = c .before .before .before .before .before .before .answer .last .1 .1 .1 .0 in
+    rw (c .with-answered .ensures)
+    (counted (viewOf (a .view)) (a .table .now) (a .query .now) (tallyIn (a .tally)) (a .space .now) out _ (c .before .before .before .before .before .before .before .before .before .before .before .pre)
+    (subst (λ r. Answers (factsIn (viewOf (a .view)) (a .table .now)) (nodeOf (a .query .now)) (length (a .space .now)) out r)
+    (c .before .before .rows .given .1) (c .before .before .before .before .before .before .answer .ensures)))
 
 pub evaluate-checked-spec : {M : Type 1} → statement M
 evaluate-checked-spec =

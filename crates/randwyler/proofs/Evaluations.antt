@@ -1,0 +1,69 @@
+-- Evaluation by the answers of its parts: what was refused by the check, and the answer to what passed it. Assumes nothing.
+use mathlib.Core.Path.{_≡_, refl, sym, ap, _∙_}
+use mathlib.Core.Bool.{true, false}
+use mathlib.Core.List.{List}
+use Prim.Native.Nat.{ℕ, _*_, _/_, _≤_}
+use native.Mathlib.Omega.{arith}
+use borrow.Author.Tests.{eqb-true, eqb-false}
+use lib.ListN.{length}
+use Rattle.tsparql.specs.Table.{View, wholeTable, factsIn}
+use Rattle.tsparql.specs.Check.{refuse, Passes, passes, check, evaluateLimit}
+use Rattle.tsparql.specs.Reading.{queryNode}
+use Rattle.tsparql.specs.PatternSets.{least}
+use Rattle.tsparql.specs.Evaluate.{Evaluated, refusedWith, answer, evaluateOver}
+use Rattle.tsparql.specs.Calls.{Tally, raiseOne, tallied, EvaluateAnswer, evaluate}
+use Rattle.tsparql.proofs.QueryLaws.{query-checked, check-parts}
+use Rattle.tsparql.proofs.EvaluateLaws.{evaluate-checked, evaluate-refused}
+use Rattle.query.specs.Variables.{NodeSound, nodeOf}
+use Rattle.query.proofs.Forest.{query-reads}
+use Rattle.patterns.specs.Sets.{Seen}
+use Rattle.evaluation.specs.Evaluations.{isAnswered, answeredIn, Answers}
+use Rattle.evaluation.specs.declared.QueryRows.{QueryRows}
+use Rattle.randwyler.specs.declared.CheckAnswer.the-variants.{Sound, Refused}
+use Rattle.randwyler.specs.Answers.{Checked, Ready}
+
+-- ---- what was checked
+
+pub ready-seen : (v : View) (t s : List ℕ) → Ready v t s → Seen v t
+ready-seen v t s h =
+    record { passed = check-parts t s (h .passed) .0; inside = rw (h .seen) (omega arith) }
+
+pub ready-node : (v : View) (t s : List ℕ) → Ready v t s → NodeSound s × (nodeOf s ≡ queryNode s) × (length s ≤ evaluateLimit)
+ready-node v t s h =
+    let c = query-checked evaluateLimit s (check-parts t s (h .passed) .1) in
+    let reads = query-reads s (rw (c .read) tt) in
+    (rw (reads .1) tt, rw (reads .1), c .short)
+
+-- ---- the tally
+
+pub counted : (v : View) (t s : List ℕ) (a : Tally) (ws out : List ℕ) (r : QueryRows) → Ready v t s
+    → Answers (factsIn v t) (nodeOf s) (length ws) out r
+    → _≡_ {A = EvaluateAnswer} (record { evaluated = answeredIn r out; tally = raiseOne (isAnswered r) a })
+    (record {
+      evaluated = answer least (factsIn v t) (queryNode s) (length ws);
+      tally = tallied a (answer least (factsIn v t) (queryNode s) (length ws) .refusal);
+    })
+unfolding tallied
+counted v t s a ws out r h e =
+    let is = ready-node v t s h .1 in
+    let here : answeredIn r out ≡ answer least (factsIn v t) (queryNode s) (length ws) = rw is at (e .answer-is) in
+    let told : isAnswered r ≡ passes (answer least (factsIn v t) (queryNode s) (length ws) .refusal) = rw is at (e .sound) in
+    rw (here, told)
+
+-- ---- the call
+
+pub evaluate-refuses : (t s : List ℕ) (a : Tally) (ws : List ℕ) {n p : ℕ} → Checked t s (Refused n p)
+    → _≡_ {A = EvaluateAnswer} (record { evaluated = refusedWith (refuse n p) ws; tally = raiseOne false a }) (evaluate a t s ws)
+unfolding tallied
+evaluate-refuses t s a ws h =
+    let no = sym (h .sound) in
+    let refused = evaluate-refused least (wholeTable t) t s ws (eqb-false (check t s .number) 0 no) in
+    rw (refused, h .refusal, no)
+
+pub evaluate-answers : (v : View) (t s : List ℕ) (a : Tally) (ws : List ℕ) → Ready v t s
+    → _≡_ {A = EvaluateAnswer}
+    (record {
+      evaluated = answer least (factsIn v t) (queryNode s) (length ws);
+      tally = tallied a (answer least (factsIn v t) (queryNode s) (length ws) .refusal);
+    }) (evaluate a t s ws)
+evaluate-answers v t s a ws h = rw (evaluate-checked least (wholeTable t) t s ws (h .passed), h .seen)
