@@ -159,8 +159,8 @@ fn deepest() -> Deepest<Ceiling> {
     Deepest {
         figure: "RANDWYLER_STACK_CEILING_KIB",
         chains: chains::all(&[], CHECK_LIMIT),
-        call: |query| ffi::ceiling(&[], query),
-        expected: |query| ceilings::ceiling(&[], query),
+        call: |query| ffi::ceiling(&tables::w(), query),
+        expected: |query| ceilings::ceiling(&tables::w(), query),
     }
 }
 

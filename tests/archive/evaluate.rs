@@ -33,7 +33,7 @@ use spaces::Spaces;
 use stack::Deepest;
 
 const RANDOM_CASES: usize = 120_000;
-const PATTERN_SETS: usize = 100_000;
+const PATTERN_SETS: usize = 102_000;
 /// Random cases are evaluated as far as so many rows of space, and left out if they take more steps.
 const MOST_SPACE: usize = 300;
 const MOST_STEPS: u64 = 10_000;
@@ -255,16 +255,24 @@ fn all_seen(report: &mut Report, seen: &Seen) {
 
 fn pattern_sets(report: &mut Report) {
     let (mut random, mut spaces) = (Random::new(8), Spaces::new(9));
-    let mut with_rows = 0;
+    // By the number of patterns.
+    let (mut with_rows, mut left_out) = ([0; 16], 0);
     for number in 0..PATTERN_SETS {
         let (table, query) = inputs::pattern_set(&mut random);
-        let outcome = rows::evaluate(&table, &query);
+        let evaluated = rows::evaluate_within(&table, &query, MOST_SPACE, MOST_STEPS, &mut Seen::default());
+        let Some(outcome) = evaluated else {
+            left_out += 1;
+            continue;
+        };
         let words = random.pick(&spaces::lengths(&outcome)[..2]);
         spaces.test(report, &format!("pattern set {number}"), (&table, &query), &outcome, words);
-        with_rows += usize::from(matches!(&outcome, Outcome::Rows(evaluation) if !evaluation.rows.is_empty()));
+        if matches!(&outcome, Outcome::Rows(evaluation) if !evaluation.rows.is_empty()) {
+            with_rows[usize::from(query[0])] += 1;
+        }
     }
-    println!("pattern sets with rows: {with_rows}");
-    report.case(with_rows > PATTERN_SETS / 3, || "too few pattern sets have rows".to_string());
+    println!("pattern sets with rows, by the number of patterns: {:?}; left out: {left_out}", &with_rows[1..]);
+    report.case(with_rows[1..].iter().all(|count| *count >= 50), || "too few pattern sets have rows".to_string());
+    report.case(left_out < PATTERN_SETS / 20, || "too many pattern sets are left out".to_string());
 }
 
 fn on_threads(report: &mut Report) {
@@ -294,10 +302,10 @@ fn deepest() -> Deepest<(Evaluated, Vec<u32>)> {
         chains: chains::all(&[], CHECK_LIMIT),
         call: |query| {
             let mut space = vec![0xA5; CHAIN_WORDS];
-            (ffi::evaluate(&[], query, &mut space, CHAIN_TALLY), space)
+            (ffi::evaluate(&tables::w(), query, &mut space, CHAIN_TALLY), space)
         },
         expected: |query| {
-            let (answer, after) = rows::evaluate(&[], query).answer(CHAIN_WORDS, CHAIN_TALLY);
+            let (answer, after) = rows::evaluate(&tables::w(), query).answer(CHAIN_WORDS, CHAIN_TALLY);
             (answer, after.unwrap_or(vec![0xA5; CHAIN_WORDS]))
         },
     }

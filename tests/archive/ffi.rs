@@ -105,18 +105,19 @@ pub fn ceiling(table: &[u8], query: &[u8]) -> Ceiling {
     ceiling_or_null(Some(table), Some(query))
 }
 
-/// `randwyler_evaluate`, with NULL for none.
-pub fn evaluate_or_null(
+/// `randwyler_evaluate` with NULL for none, in a row space by its pointer and length.
+///
+/// # Safety
+/// The row space is ours to write, or NULL with length 0.
+unsafe fn evaluate_at(
     table: Option<&[u8]>,
     query: Option<&[u8]>,
-    space: Option<&mut [u32]>,
+    (space, space_len): (*mut u32, usize),
     Tally { answered, refused }: Tally,
 ) -> Evaluated {
     let ((table, table_len), (query, query_len)) = (parts(table), parts(query));
-    let (space, space_len) = parts_mut(space);
     let tally = CTally { answered, refused };
-    // SAFETY: the pointers are NULL with length 0 or a slice's own; table and query are only read, and the space is ours.
-    let answer = unsafe { randwyler_evaluate(table, table_len, query, query_len, space, space_len, tally) };
+    let answer = randwyler_evaluate(table, table_len, query, query_len, space, space_len, tally);
     let CTally { answered, refused } = answer.tally;
     Evaluated {
         refusal: Refusal { number: answer.number, place: answer.place },
@@ -127,6 +128,25 @@ pub fn evaluate_or_null(
     }
 }
 
+/// `randwyler_evaluate`, with NULL for none.
+pub fn evaluate_or_null(table: Option<&[u8]>, query: Option<&[u8]>, space: Option<&mut [u32]>, tally: Tally) -> Evaluated {
+    // SAFETY: the pointers are NULL with length 0 or a slice's own; table and query are only read, and the space is lent.
+    unsafe { evaluate_at(table, query, parts_mut(space), tally) }
+}
+
 pub fn evaluate(table: &[u8], query: &[u8], space: &mut [u32], tally: Tally) -> Evaluated {
     evaluate_or_null(Some(table), Some(query), Some(space), tally)
+}
+
+/// `randwyler_evaluate` in a row space that nobody has written, and what then stands in it; none on the refusals 1 to 7.
+pub fn evaluate_unwritten(table: &[u8], query: &[u8], words: usize, tally: Tally) -> (Evaluated, Option<Vec<u32>>) {
+    let mut space = Vec::with_capacity(words);
+    // SAFETY: the space has room for so many words.
+    let answer = unsafe { evaluate_at(Some(table), Some(query), (space.as_mut_ptr(), words), tally) };
+    if (1..8).contains(&answer.refusal.number) {
+        return (answer, None);
+    }
+    // SAFETY: an answer, and refusal 8, write every word; valgrind sees it if they do not.
+    unsafe { space.set_len(words) };
+    (answer, Some(space))
 }

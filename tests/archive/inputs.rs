@@ -1,7 +1,7 @@
 //! Random tables with random queries, each sound or damaged.
 
 use crate::paper::CHECK_LIMIT;
-use crate::queries::{self, Nested, Query, NARROW};
+use crate::queries::{self, Nested, Query, NARROW, TWO_TERMS};
 use crate::random::Random;
 use crate::tables;
 
@@ -32,11 +32,11 @@ pub fn narrow(random: &mut Random, nested: &mut Nested) -> (Vec<u8>, Vec<u8>) {
     (table, bytes)
 }
 
-/// A small table, and a set of patterns on it.
+/// A table of at most 8 triples, and a set of patterns on it.
 pub fn pattern_set(random: &mut Random) -> (Vec<u8>, Vec<u8>) {
-    let (records, terms) = (random.within(0, 8), random.within(1, 2));
-    let table = tables::table_of_terms(random, records, terms);
-    (table, queries::pattern_set(random, &NARROW))
+    let records = random.within(0, 14);
+    let table = tables::table_of_terms(random, records, 2);
+    (table, queries::pattern_set(random, &TWO_TERMS))
 }
 
 /// A table of most of 27 or 64 triples and a long query about them: its ceiling may be above the greatest.

@@ -50,6 +50,9 @@ pub const NARROW: Pool = Pool {
     clashes: 50,
 };
 
+/// For sets of many patterns: about tables of two terms.
+pub const TWO_TERMS: Pool = Pool { terms: &[1, 2], variables: 12, ..NARROW };
+
 /// A well-formed query in the making.
 pub struct Query<'a> {
     random: &'a mut Random,
@@ -269,9 +272,10 @@ pub fn random_query(random: &mut Random, nested: &mut Nested, limit: usize, dama
     bytes
 }
 
-/// A set of one to three patterns.
+/// A set of one to 15 patterns, mostly of few.
 pub fn pattern_set(random: &mut Random, pool: &Pool) -> Vec<u8> {
-    let count = random.within(1, 3);
+    let most = random.pick(&[2, 2, 3, 3, 5, 15]);
+    let count = random.within(1, most);
     let mut nested = [[0; KINDS]; KINDS];
     let mut query = Query::empty(random, &mut nested, pool);
     query.patterns(count);

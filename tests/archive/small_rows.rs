@@ -9,7 +9,7 @@ use crate::spaces::Spaces;
 use crate::tables;
 use crate::vectors;
 
-/// Two variables, and one that is always free.
+/// The variables of the conditions.
 const X: u32 = 0;
 const Y: u32 = 1;
 
@@ -70,25 +70,25 @@ pub fn truths(report: &mut Report) {
     on_cells(report, "31 00", ["EEEEEE", "EEEEEE", "EEEEEE", "EEEFFE", "EEETFE", "EEEEEE"]);
     on_cells(report, "31 01", ["EEEFFE"; 6]);
     on_cells(report, "70", ["TTTTTT"; 6]);
-    // A condition for each truth; ?15 is free.
-    let given = [('T', "70"), ('F', "40 70"), ('E', "1f 0f")];
     let mut test = |condition: String, letter| {
         let got = truth_by_call(&[], &condition, "00");
         report.case(got == Some(truth_of(letter)), || format!("{condition}: {got:?}, expected {letter}"));
     };
-    for ((one, negation), (and, or)) in
-        given.iter().zip("FTE".chars()).zip(["TFE", "FFF", "EFE"].iter().zip(["TTT", "TFE", "TEE"]))
-    {
-        test(one.1.to_string(), one.0);
-        test(format!("40 {}", one.1), negation);
+    // A condition that is true, one that is false and one that errs (?15 is free), and each one's truth, its negation's, and
+    // those of and, and of or, with each of the three.
+    let given = ["70", "40 70", "1f 0f"];
+    let truths = [('T', 'F', "TFE", "TTT"), ('F', 'T', "FFF", "TFE"), ('E', 'E', "EFE", "TEE")];
+    for (one, (itself, negation, and, or)) in given.iter().zip(truths) {
+        test(one.to_string(), itself);
+        test(format!("40 {one}"), negation);
         for ((other, both), either) in given.iter().zip(and.chars()).zip(or.chars()) {
-            test(format!("50 {} {}", one.1, other.1), both);
-            test(format!("60 {} {}", one.1, other.1), either);
+            test(format!("50 {one} {other}"), both);
+            test(format!("60 {one} {other}"), either);
         }
     }
 }
 
-/// Conditions on X and Y: those without operands, and all that one or two operators make of them.
+/// Conditions on X and Y: those without operands, their conjunctions and disjunctions, and the negations of all these.
 fn conditions() -> Vec<String> {
     let simple =
         ["00", "01", "10 01", "11 00", "10 00", "20 000001", "21 000001", "21 0fffff", "30 01", "31 00", "31 01", "70"];
