@@ -59,7 +59,7 @@ run_program() {
         fail "$source does not compile"
         return
     }
-    say "running ${*:2} $program"
+    say running "${@:2}" "$program"
     "${@:2}" "$program" 2>&1 | tee "$program.log" || status=$?
     last=$(tail -n 1 "$program.log")
     if [[ ! $last =~ ^([0-9]+)\ passed,\ ([0-9]+)\ failed$ ]]; then

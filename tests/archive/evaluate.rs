@@ -31,8 +31,9 @@ use report::{hex, Report};
 use rows::{Outcome, Seen, LEFT_ROWS, MOST_ROWS, ROW_WORDS};
 use spaces::Spaces;
 use stack::Deepest;
+use std::collections::BTreeMap;
 
-const RANDOM_CASES: usize = 120_000;
+const RANDOM_CASES: usize = 105_000;
 const PATTERN_SETS: usize = 102_000;
 /// Random cases are evaluated as far as so many rows of space, and left out if they take more steps.
 const MOST_SPACE: usize = 300;
@@ -134,7 +135,7 @@ fn greatest_spaces(report: &mut Report) {
 /// How often the two evaluations had each pair of numbers, and how often the rewriting needed less.
 #[derive(Default)]
 struct Compared {
-    numbers: [[u64; 9]; 9],
+    numbers: BTreeMap<(u32, u32), u64>,
     lesser_peaks: u64,
     fewer_pairs: u64,
 }
@@ -171,14 +172,12 @@ impl Compared {
             let rewriting = format!("=> {one}, and of its rewriting {} => {other}", hex(rewriting));
             format!("{what}: eval {} {} {words} {rewriting}", hex(table), hex(query))
         });
-        if let Some(count) = self.numbers.get_mut(one.refusal.number as usize) {
-            count[other.refusal.number as usize % 9] += 1;
-        }
+        *self.numbers.entry((one.refusal.number, other.refusal.number)).or_default() += 1;
     }
 
     fn enough(&self, report: &mut Report) {
         for (one, other, least) in [(0, 0, 50_000), (8, 8, 10_000), (8, 0, 1_000), (1, 1, 100), (3, 3, 100), (4, 4, 100)] {
-            let count = self.numbers[one][other];
+            let count = self.numbers.get(&(one, other)).copied().unwrap_or(0);
             println!("query and rewriting with numbers {one} and {other}: {count}");
             report.case(count >= least, || format!("only {count} queries and rewritings with numbers {one} and {other}"));
         }
@@ -205,12 +204,11 @@ fn random_cases(report: &mut Report) {
         };
         let what = format!("random case {number}");
         let lengths = spaces::lengths(&outcome);
-        let chosen = [lengths[0], lengths[1], random.pick(&lengths[2..]), random.pick(&lengths[2..])];
-        for words in chosen {
+        for words in [lengths[0], lengths[1], random.pick(&lengths[2..])] {
             spaces.test(report, &what, (&table, &query), &outcome, words);
         }
-        for words in [chosen[0], chosen[1]] {
-            compared.test(report, &mut spaces, &what, (&table, &query), words);
+        for words in &lengths[..2] {
+            compared.test(report, &mut spaces, &what, (&table, &query), *words);
         }
         match &outcome {
             Outcome::Refused(refused) => numbers[refused.number as usize] += 1,
@@ -244,7 +242,7 @@ fn all_seen(report: &mut Report, seen: &Seen) {
     for (kind, counts) in CONDITION_KINDS.iter().zip(seen.truths) {
         for (truth, count) in TRUTHS.iter().zip(counts) {
             let never = *kind == "true" && *truth != Some(true) || *kind == "bound" && truth.is_none();
-            report.case(never || count >= 50, || format!("{kind} was {truth:?} only {count} times"));
+            report.case(never || count >= 500, || format!("{kind} was {truth:?} only {count} times"));
         }
     }
     for (outcome, count) in LEFT_ROWS.iter().zip(seen.left_rows) {

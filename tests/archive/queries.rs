@@ -160,6 +160,7 @@ impl<'a> Query<'a> {
                 self.piece(&[(kind << 4) as u8]);
                 self.pair(kind, left);
             }
+            2 if self.to_project.len() >= 2 && self.random.once_in(3) => self.trusts_compared(left),
             2 => {
                 self.piece(&[0x20]);
                 let part = self.random.below(left / 2 + 1);
@@ -185,6 +186,20 @@ impl<'a> Query<'a> {
                 self.piece(&[0x60, (low >> 4) as u8, (low << 4 | high >> 8) as u8, high as u8]);
                 self.node(Some(kind), budget.saturating_sub(4));
             }
+        }
+    }
+
+    /// A left join on whether the left row's trust is less than the right row's.
+    fn trusts_compared(&mut self, budget: usize) {
+        let variables = [self.unused(), self.unused()];
+        self.piece(&[0x20]);
+        self.piece(&[0x30 | variables[0], variables[1]]);
+        self.nested[2][CONDITION + 3] += 1;
+        let (left, right) = self.split(budget);
+        for (variable, budget) in variables.into_iter().zip([left, right]) {
+            self.nested[2][5] += 1;
+            self.piece(&[0x50 | variable]);
+            self.node(Some(5), budget);
         }
     }
 
