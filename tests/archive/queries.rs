@@ -17,9 +17,9 @@ const NEAR: usize = 20;
 pub type Nested = [[u64; KINDS]; KINDS];
 
 /// What queries are made of.
-pub struct Pool {
-    terms: &'static [u32],
-    terms_of_conditions: &'static [u32],
+pub struct Pool<'a> {
+    terms: &'a [u32],
+    terms_of_conditions: &'a [u32],
     /// So many of the 16 variables stand in a query.
     variables: usize,
     /// So many of 4 slots are variables.
@@ -28,6 +28,13 @@ pub struct Pool {
     patterns: &'static [usize],
     /// Once in so many queries, project trusts may take any variable.
     clashes: usize,
+}
+
+impl<'a> Pool<'a> {
+    /// The same with other terms.
+    pub fn with_terms(self, terms: &'a [u32]) -> Pool<'a> {
+        Pool { terms, terms_of_conditions: terms, ..self }
+    }
 }
 
 /// For readers: every sort of value.
@@ -50,13 +57,13 @@ pub const NARROW: Pool = Pool {
     clashes: 50,
 };
 
-/// For sets of many patterns: about tables of two terms.
-pub const TWO_TERMS: Pool = Pool { terms: &[1, 2], variables: 12, ..NARROW };
+/// For sets of many patterns: more variables, so that one choice of records more often fits all patterns.
+pub const MANY_PATTERNS: Pool = Pool { variables: 12, ..NARROW };
 
 /// A well-formed query in the making.
 pub struct Query<'a> {
     random: &'a mut Random,
-    pool: &'a Pool,
+    pool: &'a Pool<'a>,
     pub bytes: Vec<u8>,
     /// Start and length of every head (with its bounds), condition head and pattern, in order.
     pub pieces: Vec<(usize, usize)>,
@@ -71,7 +78,7 @@ pub struct Query<'a> {
 }
 
 impl<'a> Query<'a> {
-    fn empty(random: &'a mut Random, nested: &'a mut Nested, pool: &'a Pool) -> Query<'a> {
+    fn empty(random: &'a mut Random, nested: &'a mut Nested, pool: &'a Pool<'a>) -> Query<'a> {
         let mut variables: Vec<u8> = (0..16).collect();
         while variables.len() > pool.variables {
             variables.swap_remove(random.below(variables.len()));
@@ -82,7 +89,7 @@ impl<'a> Query<'a> {
         Query { random, pool, bytes, pieces, nested, variables, in_patterns, in_projects, to_project, clashes }
     }
 
-    pub fn new(random: &'a mut Random, nested: &'a mut Nested, pool: &'a Pool, budget: usize) -> Query<'a> {
+    pub fn new(random: &'a mut Random, nested: &'a mut Nested, pool: &'a Pool<'a>, budget: usize) -> Query<'a> {
         let mut query = Query::empty(random, nested, pool);
         query.node(None, budget);
         query

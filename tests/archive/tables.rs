@@ -39,14 +39,14 @@ pub fn large(count: usize) -> Vec<u8> {
 pub fn table(random: &mut Random, count: usize) -> Vec<u8> {
     let ranges: &[usize] = if count < 5_000 { &[3, 3, 17, 300, 70_000, 1_048_575] } else { &[300, 70_000, 1_048_575] };
     let most = random.pick(ranges);
-    table_of_terms(random, count, most)
+    table_of_terms(random, count, |random| random.within(1, most) as u32)
 }
 
-/// The same with terms from 1 to `most`.
-pub fn table_of_terms(random: &mut Random, count: usize, most: usize) -> Vec<u8> {
+/// The same with terms of a choice.
+pub fn table_of_terms(random: &mut Random, count: usize, term: impl Fn(&mut Random) -> u32) -> Vec<u8> {
     let mut triples = BTreeSet::new();
     for _ in 0..count {
-        triples.insert([0; 3].map(|_| random.within(1, most) as u32));
+        triples.insert([0; 3].map(|_| term(random)));
     }
     let mut bytes = Vec::new();
     for triple in triples {
