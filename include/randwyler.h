@@ -3,10 +3,10 @@
  * Every call keeps no state between calls and uses no memory but what it is lent and the stack, so any number of threads
  * may call at once.
  *
- * A slice is a pointer and a length in bytes. A slice is lent for the time of the call. The slices of one call do not
- * overlap. A pointer whose length is 0 may be NULL.
+ * A slice is a pointer and a length: in bytes, or in 32-bit words where the pointer is to uint32_t. A slice is lent for the
+ * time of the call. The slices of one call do not overlap. A pointer whose length is 0 may be NULL.
  *
- * The formats of tables and queries are in docs/FORMATS.md.
+ * The formats of tables, queries and rows are in docs/FORMATS.md.
  */
 #ifndef RANDWYLER_H
 #define RANDWYLER_H
@@ -33,6 +33,7 @@ extern "C" {
  *                                                                               byte behind the node
  *   7       the variable of a project trust is used by a pattern or by a        the byte of the first project trust
  *           second project trust, anywhere in the query                         whose variable is used so
+ *   8       the evaluation needs more rows of row space than the capacity       0
  *   9       the output is shorter than the result                               the length needed
  *
  * If several apply, the table's come before the query's, and a lower number before a higher one. But the table's records
@@ -47,6 +48,8 @@ struct randwyler_refusal {
  * holds it to these. */
 #define RANDWYLER_STACK_CHECK_KIB 1280
 #define RANDWYLER_STACK_REWRITE_KIB 272
+#define RANDWYLER_STACK_CEILING_KIB 4096
+#define RANDWYLER_STACK_EVALUATE_KIB 4096
 
 /* Tests a table, and a query of at most 5,120 bytes. Two read-only slices are lent: no byte of them, and no other memory,
  * is written. */
@@ -64,6 +67,44 @@ struct randwyler_rewritten {
  * long as the query: an output of 5,120 bytes always does. The query is not written, nor are the output's bytes behind the
  * result; on a refusal none is. */
 struct randwyler_rewritten randwyler_rewrite(const uint8_t *query, size_t query_len, uint8_t *output, size_t output_len);
+
+/* Why a ceiling is refused, and where, as in struct randwyler_refusal; and the ceiling, 0 on a refusal. */
+struct randwyler_ceiling {
+    uint32_t number;
+    uint64_t place;
+    uint32_t ceiling;
+};
+
+/* A number of rows that no answered evaluation of the query on the table exceeds, cut at 4,294,967,295, by counting records
+ * that match single patterns. Takes what randwyler_check takes, and refuses what it refuses. Nothing is written. */
+struct randwyler_ceiling randwyler_ceiling_of(const uint8_t *table, size_t table_len, const uint8_t *query, size_t query_len);
+
+/* Counts of evaluations. A count that has reached 4,294,967,295 stays there. */
+struct randwyler_tally {
+    uint32_t answered;
+    uint32_t refused;
+};
+
+/* Why an evaluation is refused, and where, as in struct randwyler_refusal; and, all 0 on a refusal:
+ *   rows   how many rows stand in the row space
+ *   peak   how many rows of row space the evaluation needs at most at a time
+ *   pairs  how many pairs of a left and a right row the joins and left joins have, together
+ * and the tally that was given, with answered or refused raised by 1. */
+struct randwyler_evaluated {
+    uint32_t number;
+    uint64_t place;
+    uint32_t rows;
+    uint32_t peak;
+    uint64_t pairs;
+    struct randwyler_tally tally;
+};
+
+/* Evaluates a query of at most 5,120 bytes on a table, in a row space of `space_len` words. A row is 17 words, and the
+ * capacity is the whole rows that fit, at most 65,535; the refusals are 1 to 8. An answer leaves the rows at the front of the
+ * row space and 0 in all its later words. Refusal 8 leaves it all 0, 1 to 7 leave it unchanged. What stands in it before the
+ * call has no influence. Table and query are not written. */
+struct randwyler_evaluated randwyler_evaluate(const uint8_t *table, size_t table_len, const uint8_t *query, size_t query_len,
+                                              uint32_t *space, size_t space_len, struct randwyler_tally tally);
 
 #ifdef __cplusplus
 }

@@ -47,3 +47,26 @@ compile_c() {
 compile_display() {
     compile_c "$1" display/display.c display/tree.c
 }
+
+# run_program SOURCE [COMMAND...]: compiles a Rust test program with the archive, runs it (by a command, if there is one) and
+# adds the counts of its last line. Products stand in target/tests.
+run_program() {
+    local source=$1 program last status=0
+    program=target/tests/$(basename "$source" .rs)
+    mkdir -p target/tests
+    # Modules are shared by the programs, and none has to use all of one.
+    rustc -O --edition 2021 -D warnings -A dead_code -C link-arg="$archive" -o "$program" "$source" || {
+        fail "$source does not compile"
+        return
+    }
+    say running "${@:2}" "$program"
+    "${@:2}" "$program" 2>&1 | tee "$program.log" || status=$?
+    last=$(tail -n 1 "$program.log")
+    if [[ ! $last =~ ^([0-9]+)\ passed,\ ([0-9]+)\ failed$ ]]; then
+        fail "$program ended with status $status and without its counts"
+        return
+    fi
+    passed=$((passed + BASH_REMATCH[1]))
+    failed=$((failed + BASH_REMATCH[2]))
+    if [ "$status" -ne 0 ] && [ "${BASH_REMATCH[2]}" -eq 0 ]; then fail "$program ended with status $status"; fi
+}

@@ -45,6 +45,8 @@ pub fn all(root: &[u8], length: usize) -> Vec<Chain> {
     let make = Maker { root, length };
     let distinct: Vec<u8> = (0x50..0x5F).collect();
     let pattern_of_0 = [0x01, 0x10, 0, 0, 0, 0, 1, 0, 0, 1];
+    // {?0 10 ?1}, 15 times.
+    let most_patterns = [&[0x0F][..], &[0x10, 0, 0, 0, 0, 10, 0x10, 0, 1].repeat(15)].concat();
     let (start, end) = (root.len(), length);
     let nodes = |name, link: &[u8], tail: &[u8], refusal| make.chain(name, &[], link, SET, tail, &[], refusal);
     let conditions = |name, link: &[u8], tail: &[u8]| make.chain(name, &[0x40], link, TRUE, tail, SET, NONE);
@@ -56,6 +58,7 @@ pub fn all(root: &[u8], length: usize) -> Vec<Chain> {
         make.chain("project trust with no end", &[], &[0x50], &[], &[], &[], refusal(6, end)),
         nodes("ensure trust", E, &[], NONE),
         nodes("filter", &[0x40, 0x70], &[], NONE),
+        make.chain("filters of a set of 15 patterns", &[], &[0x40, 0x70], &most_patterns, &[], &[], NONE),
         nodes("joins to the left", &[0x10], SET, NONE),
         nodes("joins to the right", &[0x10, 0x00], &[], NONE),
         nodes("left joins to the left", &[0x20, 0x70], SET, NONE),

@@ -1,6 +1,6 @@
 //! The calls of the archive, as functions on slices.
 
-use crate::paper::{Refusal, Rewritten};
+use crate::paper::{Ceiling, Evaluated, Refusal, Rewritten, Tally};
 
 /// struct randwyler_refusal
 #[repr(C)]
@@ -17,14 +17,55 @@ struct CRewritten {
     length: u64,
 }
 
+/// struct randwyler_ceiling
+#[repr(C)]
+struct CCeiling {
+    number: u32,
+    place: u64,
+    ceiling: u32,
+}
+
+/// struct randwyler_tally
+#[repr(C)]
+struct CTally {
+    answered: u32,
+    refused: u32,
+}
+
+/// struct randwyler_evaluated
+#[repr(C)]
+struct CEvaluated {
+    number: u32,
+    place: u64,
+    rows: u32,
+    peak: u32,
+    pairs: u64,
+    tally: CTally,
+}
+
 extern "C" {
     fn randwyler_check(table: *const u8, table_len: usize, query: *const u8, query_len: usize) -> CRefusal;
     fn randwyler_rewrite(query: *const u8, query_len: usize, output: *mut u8, output_len: usize) -> CRewritten;
+    fn randwyler_ceiling_of(table: *const u8, table_len: usize, query: *const u8, query_len: usize) -> CCeiling;
+    fn randwyler_evaluate(
+        table: *const u8,
+        table_len: usize,
+        query: *const u8,
+        query_len: usize,
+        space: *mut u32,
+        space_len: usize,
+        tally: CTally,
+    ) -> CEvaluated;
 }
 
 /// The pointer and length of a slice; none is NULL with length 0.
 fn parts(slice: Option<&[u8]>) -> (*const u8, usize) {
     slice.map_or((std::ptr::null(), 0), |bytes| (bytes.as_ptr(), bytes.len()))
+}
+
+/// The same of a slice to write.
+fn parts_mut<T>(slice: Option<&mut [T]>) -> (*mut T, usize) {
+    slice.map_or((std::ptr::null_mut(), 0), |values| (values.as_mut_ptr(), values.len()))
 }
 
 /// `randwyler_check`, with NULL for none.
@@ -42,7 +83,7 @@ pub fn check(table: &[u8], query: &[u8]) -> Refusal {
 /// `randwyler_rewrite`, with NULL for none.
 pub fn rewrite_or_null(query: Option<&[u8]>, output: Option<&mut [u8]>) -> Rewritten {
     let (query, query_len) = parts(query);
-    let (output, output_len) = output.map_or((std::ptr::null_mut(), 0), |bytes| (bytes.as_mut_ptr(), bytes.len()));
+    let (output, output_len) = parts_mut(output);
     // SAFETY: both pointers are NULL with length 0 or a slice's own; the call only reads the query, and the output is ours.
     let answer = unsafe { randwyler_rewrite(query, query_len, output, output_len) };
     Rewritten { refusal: Refusal { number: answer.number, place: answer.place }, length: answer.length }
@@ -50,4 +91,62 @@ pub fn rewrite_or_null(query: Option<&[u8]>, output: Option<&mut [u8]>) -> Rewri
 
 pub fn rewrite(query: &[u8], output: &mut [u8]) -> Rewritten {
     rewrite_or_null(Some(query), Some(output))
+}
+
+/// `randwyler_ceiling_of`, with NULL for none.
+pub fn ceiling_or_null(table: Option<&[u8]>, query: Option<&[u8]>) -> Ceiling {
+    let ((table, table_len), (query, query_len)) = (parts(table), parts(query));
+    // SAFETY: both pointers are NULL with length 0 or a slice's own, and the call only reads them.
+    let answer = unsafe { randwyler_ceiling_of(table, table_len, query, query_len) };
+    Ceiling { refusal: Refusal { number: answer.number, place: answer.place }, ceiling: answer.ceiling }
+}
+
+pub fn ceiling(table: &[u8], query: &[u8]) -> Ceiling {
+    ceiling_or_null(Some(table), Some(query))
+}
+
+/// `randwyler_evaluate` with NULL for none, in a row space by its pointer and length.
+///
+/// # Safety
+/// The row space is ours to write, or NULL with length 0.
+unsafe fn evaluate_at(
+    table: Option<&[u8]>,
+    query: Option<&[u8]>,
+    (space, space_len): (*mut u32, usize),
+    Tally { answered, refused }: Tally,
+) -> Evaluated {
+    let ((table, table_len), (query, query_len)) = (parts(table), parts(query));
+    let tally = CTally { answered, refused };
+    let answer = randwyler_evaluate(table, table_len, query, query_len, space, space_len, tally);
+    let CTally { answered, refused } = answer.tally;
+    Evaluated {
+        refusal: Refusal { number: answer.number, place: answer.place },
+        rows: answer.rows,
+        peak: answer.peak,
+        pairs: answer.pairs,
+        tally: Tally { answered, refused },
+    }
+}
+
+/// `randwyler_evaluate`, with NULL for none.
+pub fn evaluate_or_null(table: Option<&[u8]>, query: Option<&[u8]>, space: Option<&mut [u32]>, tally: Tally) -> Evaluated {
+    // SAFETY: the pointers are NULL with length 0 or a slice's own; table and query are only read, and the space is lent.
+    unsafe { evaluate_at(table, query, parts_mut(space), tally) }
+}
+
+pub fn evaluate(table: &[u8], query: &[u8], space: &mut [u32], tally: Tally) -> Evaluated {
+    evaluate_or_null(Some(table), Some(query), Some(space), tally)
+}
+
+/// `randwyler_evaluate` in a row space that nobody has written, and what then stands in it; none on the refusals 1 to 7.
+pub fn evaluate_unwritten(table: &[u8], query: &[u8], words: usize, tally: Tally) -> (Evaluated, Option<Vec<u32>>) {
+    let mut space = Vec::with_capacity(words);
+    // SAFETY: the space has room for so many words.
+    let answer = unsafe { evaluate_at(Some(table), Some(query), (space.as_mut_ptr(), words), tally) };
+    if (1..8).contains(&answer.refusal.number) {
+        return (answer, None);
+    }
+    // SAFETY: an answer, and refusal 8, write every word; valgrind sees it if they do not.
+    unsafe { space.set_len(words) };
+    (answer, Some(space))
 }

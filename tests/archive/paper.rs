@@ -19,6 +19,29 @@ pub struct Rewritten {
     pub length: u64,
 }
 
+/// The answer of a ceiling: the ceiling is 0 on a refusal.
+#[derive(Clone, Copy, Debug, PartialEq, Eq)]
+pub struct Ceiling {
+    pub refusal: Refusal,
+    pub ceiling: u32,
+}
+
+#[derive(Clone, Copy, Debug, PartialEq, Eq)]
+pub struct Tally {
+    pub answered: u32,
+    pub refused: u32,
+}
+
+/// The answer of an evaluation: rows, peak and pairs are 0 on a refusal.
+#[derive(Clone, Copy, Debug, PartialEq, Eq)]
+pub struct Evaluated {
+    pub refusal: Refusal,
+    pub rows: u32,
+    pub peak: u32,
+    pub pairs: u64,
+    pub tally: Tally,
+}
+
 pub fn refusal(number: u32, place: usize) -> Refusal {
     Refusal { number, place: place as u64 }
 }

@@ -1,5 +1,22 @@
 //! Repeatable random numbers (splitmix64), and damage done by them.
 
+/// What noise can be made of.
+pub trait Noise: Copy + PartialEq {
+    fn of(bits: u64) -> Self;
+}
+
+impl Noise for u8 {
+    fn of(bits: u64) -> u8 {
+        bits as u8
+    }
+}
+
+impl Noise for u32 {
+    fn of(bits: u64) -> u32 {
+        bits as u32
+    }
+}
+
 pub struct Random(u64);
 
 impl Random {
@@ -38,8 +55,8 @@ impl Random {
         self.next() as u8
     }
 
-    pub fn bytes(&mut self, count: usize) -> Vec<u8> {
-        (0..count).map(|_| self.byte()).collect()
+    pub fn noise<T: Noise>(&mut self, count: usize) -> Vec<T> {
+        (0..count).map(|_| T::of(self.next())).collect()
     }
 
     /// Flips a bit, sets, drops or inserts bytes, or cuts the end off.
@@ -47,11 +64,11 @@ impl Random {
         let place = self.below(bytes.len() + 1);
         let some = self.pick(&[1, 1, 1, 2, 3, 9]);
         match self.below(5) {
-            _ if place == bytes.len() => bytes.extend(self.bytes(some)),
+            _ if place == bytes.len() => bytes.extend(self.noise::<u8>(some)),
             0 => bytes[place] ^= 1 << self.below(8),
             1 => bytes[place] = self.byte(),
             2 => drop(bytes.drain(place..(place + some).min(bytes.len()))),
-            3 => drop(bytes.splice(place..place, self.bytes(some))),
+            3 => drop(bytes.splice(place..place, self.noise(some))),
             _ => bytes.truncate(place),
         }
     }

@@ -1,6 +1,7 @@
 //! Counts cases, and shows those that fail.
 
-use crate::paper::{Refusal, Rewritten};
+use crate::paper::{Ceiling, Evaluated, Refusal, Rewritten, Tally};
+use std::fmt::{Display, Formatter, Result};
 
 /// Failures that are shown in full; later ones are only counted.
 const SHOWN: u64 = 20;
@@ -24,21 +25,36 @@ impl Report {
         }
     }
 
+    /// Counts a case of a call; `inputs` says what the call took.
+    fn answer<A: PartialEq + Display>(&mut self, what: &str, expected: A, got: A, inputs: impl FnOnce() -> String) {
+        self.case(expected == got, || format!("{what}: {} => {expected}, but got {got}", inputs()));
+    }
+
     /// Counts a case of the check.
     pub fn check(&mut self, what: &str, table: &[u8], query: &[u8], expected: Refusal, got: Refusal) {
-        self.case(expected == got, || {
-            let Refusal { number, place } = expected;
-            let inputs = format!("check {} {} => {number} {place}", hex(table), hex(query));
-            format!("{what}: {inputs}, but got {} {}", got.number, got.place)
-        });
+        self.answer(what, expected, got, || format!("check {} {}", hex(table), hex(query)));
     }
 
     /// Counts a case of the rewriting, into an output of `room` bytes.
     pub fn rewrite(&mut self, what: &str, query: &[u8], room: usize, expected: Rewritten, got: Rewritten) {
-        self.case(expected == got, || {
-            let answer = |Rewritten { refusal, length }| format!("{} {} {length}", refusal.number, refusal.place);
-            format!("{what}: rewrite {} {room} => {}, but got {}", hex(query), answer(expected), answer(got))
-        });
+        self.answer(what, expected, got, || format!("rewrite {} {room}", hex(query)));
+    }
+
+    /// Counts a case of the ceiling.
+    pub fn ceiling(&mut self, what: &str, table: &[u8], query: &[u8], expected: Ceiling, got: Ceiling) {
+        self.answer(what, expected, got, || format!("ceiling {} {}", hex(table), hex(query)));
+    }
+
+    /// Counts a case of the evaluation, in a row space of `words` words.
+    pub fn evaluate(
+        &mut self,
+        what: &str,
+        (table, query): (&[u8], &[u8]),
+        words: usize,
+        expected: Evaluated,
+        got: Evaluated,
+    ) {
+        self.answer(what, expected, got, || format!("eval {} {} {words}", hex(table), hex(query)));
     }
 
     /// Says what a part of the test found.
@@ -50,6 +66,33 @@ impl Report {
     pub fn finish(&self) -> i32 {
         println!("{} passed, {} failed", self.passed, self.failed);
         i32::from(self.failed != 0)
+    }
+}
+
+// ---- Answers as in the vectors
+
+impl Display for Refusal {
+    fn fmt(&self, to: &mut Formatter) -> Result {
+        write!(to, "{} {}", self.number, self.place)
+    }
+}
+
+impl Display for Rewritten {
+    fn fmt(&self, to: &mut Formatter) -> Result {
+        write!(to, "{} {}", self.refusal, self.length)
+    }
+}
+
+impl Display for Ceiling {
+    fn fmt(&self, to: &mut Formatter) -> Result {
+        write!(to, "{} {}", self.refusal, self.ceiling)
+    }
+}
+
+impl Display for Evaluated {
+    fn fmt(&self, to: &mut Formatter) -> Result {
+        let Tally { answered, refused } = self.tally;
+        write!(to, "{} {} {} {} (tally {answered}, {refused})", self.refusal, self.rows, self.peak, self.pairs)
     }
 }
 

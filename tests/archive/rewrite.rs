@@ -12,10 +12,11 @@ mod queries;
 mod random;
 mod report;
 mod stack;
+mod tables;
 mod threads;
 mod vectors;
 
-use fence::Fenced;
+use fence::{Fenced, Lender};
 use limits::AtLimit;
 use paper::{refusal, Refusal, Rewritten, NONE};
 use push::{Seen, MOST_RESULT, NODE_KINDS, REWRITE_LIMIT, UNDER};
@@ -35,31 +36,21 @@ fn pushed(query: &[u8]) -> Pushed {
     push::rewriting(query, &mut Seen::default())
 }
 
-/// Bytes that stand in outputs before a call.
-struct Outputs {
-    random: Random,
-    noise: Vec<u8>,
-}
+/// Outputs to lend to calls.
+struct Outputs(Lender<u8>);
 
 impl Outputs {
     fn new(seed: u64) -> Outputs {
-        let mut random = Random::new(seed);
-        let noise = random.bytes(2 * MOST_RESULT);
-        Outputs { random, noise }
-    }
-
-    fn output(&mut self, room: usize) -> Fenced {
-        let from = self.random.below(self.noise.len() - room);
-        Fenced::new(&mut self.random, &self.noise[from..from + room])
+        Outputs(Lender::new(seed, MOST_RESULT))
     }
 
     /// Calls with the query and an output of `room` bytes, each between random bytes at random alignments. The case fails if
     /// the answer is not the expected one, or if a byte differs that is not the result's.
     fn test(&mut self, report: &mut Report, what: &str, query: &[u8], expected: &Pushed, room: usize) {
         let (answer, written) = push::answer(expected, room);
-        let around_query = Fenced::new(&mut self.random, query);
-        let mut output = self.output(room);
-        let got = ffi::rewrite(around_query.bytes(), output.bytes_mut());
+        let around_query = Fenced::new(&mut self.0.random, query);
+        let mut output = self.0.lend(room);
+        let got = ffi::rewrite(around_query.slice(), output.slice_mut());
         if got == answer && !(output.holds(written) && around_query.holds(&[])) {
             return report.case(false, || format!("{what}: wrong bytes after rewrite {} {room}", report::hex(query)));
         }
@@ -105,12 +96,8 @@ fn vectors(report: &mut Report) {
     }
 }
 
-/// Queries and their rewritings, both written down by hand. A is {?0 20 21}, B is {?0 10 ?1}.
+/// Queries and their rewritings, both written down by hand.
 fn by_hand(report: &mut Report) {
-    let bytes = |text: &str| {
-        let text = text.replace('A', "01 100000 000014 000015").replace('B', "01 100000 00000a 100001");
-        vectors::bytes(&text.replace(' ', ""))
-    };
     let mut outputs = Outputs::new(2);
     for (what, query, result) in [
         ("a join, u = 1000", "60 5dc7d0 10 A B", "10 60 5dc7d0 A 60 5dc7d0 B"),
@@ -127,7 +114,7 @@ fn by_hand(report: &mut Report) {
         ("l above u", "60 7d0000 30 00 60 0007d0 00", "30 60 7d0000 00 60 7d0000 00"),
         ("filter and project trust", "60 5dc7cf 40 50 0f 1102 53 00", "40 50 0f 1102 53 60 5dc7cf 00"),
     ] {
-        let (query, result) = (bytes(query), bytes(result));
+        let (query, result) = (vectors::query(query), vectors::query(result));
         report.case(pushed(&query).as_ref() == Ok(&result), || format!("{what}: push.rs differs"));
         outputs.test_rooms(report, what, &query, &Ok(result));
     }

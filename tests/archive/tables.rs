@@ -10,13 +10,43 @@ pub fn record(terms: [u32; 3], known: bool, trust: u32) -> [u8; 9] {
     all.to_be_bytes()[7..].try_into().expect("9 of 16 bytes")
 }
 
+/// A record whose trust is in thousandths, or unknown.
+pub fn fact(terms: [u32; 3], trust: Option<i32>) -> [u8; 9] {
+    record(terms, trust.is_some(), trust.map_or(0, |trust| (trust + 1_000) as u32))
+}
+
+/// A table of records whose trusts are in thousandths, or unknown.
+pub fn facts(facts: &[([u32; 3], Option<i32>)]) -> Vec<u8> {
+    facts.iter().flat_map(|(terms, trust)| fact(*terms, *trust)).collect()
+}
+
+/// The store W of document 01.
+pub fn w() -> Vec<u8> {
+    facts(&[([1, 10, 11], Some(900)), ([1, 10, 12], Some(200)), ([1, 20, 21], Some(800)), ([2, 20, 21], None)])
+}
+
+/// `count` sound records: every subject, predicate and object from a range of its own.
+pub fn large(count: usize) -> Vec<u8> {
+    let one = |i: usize| {
+        let known = i % 7 != 0;
+        let terms = [1 + i / 4_000, 1 + i / 10 % 400, 1_048_566 + i % 10].map(|term| term as u32);
+        record(terms, known, if known { i as u32 % 2_001 } else { 0 })
+    };
+    (0..count).flat_map(one).collect()
+}
+
 /// A sound table of `count` records, or somewhat fewer where two would be equal.
 pub fn table(random: &mut Random, count: usize) -> Vec<u8> {
     let ranges: &[usize] = if count < 5_000 { &[3, 3, 17, 300, 70_000, 1_048_575] } else { &[300, 70_000, 1_048_575] };
     let most = random.pick(ranges);
+    table_of_terms(random, count, |random| random.within(1, most) as u32)
+}
+
+/// The same with terms of a choice.
+pub fn table_of_terms(random: &mut Random, count: usize, term: impl Fn(&mut Random) -> u32) -> Vec<u8> {
     let mut triples = BTreeSet::new();
     for _ in 0..count {
-        triples.insert([0; 3].map(|_| random.within(1, most) as u32));
+        triples.insert([0; 3].map(|_| term(random)));
     }
     let mut bytes = Vec::new();
     for triple in triples {

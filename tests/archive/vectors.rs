@@ -30,6 +30,28 @@ pub fn bytes(text: &str) -> Vec<u8> {
     (0..text.len()).step_by(2).map(byte).collect()
 }
 
+/// Words of 8 digits.
+pub fn words(text: &str) -> Vec<u32> {
+    bytes(text).chunks(4).map(|word| u32::from_be_bytes(word.try_into().expect("whole words"))).collect()
+}
+
+/// Names for parts of queries that are written by hand.
+const NAMES: [(char, &str); 8] = [
+    ('A', "01 100000 000014 000015"), // {?0 20 21}
+    ('B', "01 100000 00000a 100001"), // {?0 10 ?1}
+    ('E', "60 5dc7d0"),               // ensure trust 500 to 1000
+    ('S', "01 P"),                    // the set of the one pattern P
+    ('N', "01 Q"),                    // the set of the one pattern Q
+    ('P', "100000 100001 100002"),    // ?0 ?1 ?2, which every record matches
+    ('Q', "000063 000063 000063"),    // 99 99 99
+    (' ', ""),
+];
+
+/// A query written by hand: bytes and `NAMES`.
+pub fn query(text: &str) -> Vec<u8> {
+    bytes(&NAMES.iter().fold(text.to_string(), |text, (name, bytes)| text.replace(*name, bytes)))
+}
+
 pub fn number(text: &str) -> u64 {
     text.parse().expect("a decimal number")
 }

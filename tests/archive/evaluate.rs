@@ -1,0 +1,340 @@
+//! Tests `randwyler_evaluate` of the built archive: vectors, rows by hand, an independent evaluation (rows.rs) in row spaces
+//! of awkward lengths, a query beside its rewriting, limits, and the stack it needs. The last line is 'N passed, M failed'.
+
+mod chains;
+mod conditions;
+mod fence;
+mod ffi;
+mod inputs;
+mod known_rows;
+mod limits;
+mod paper;
+mod push;
+mod queries;
+mod random;
+mod report;
+mod rows;
+mod small_rows;
+mod spaces;
+mod stack;
+mod tables;
+mod threads;
+mod vectors;
+
+use conditions::{CONDITION_KINDS, TRUTHS};
+use limits::{AtLimit, NullInput, TableAtLimit};
+use paper::{refusal, Evaluated, Refusal, Tally, CHECK_LIMIT, MOST_RECORDS, NONE};
+use push::MOST_RESULT;
+use queries::{Nested, KINDS};
+use random::Random;
+use report::{hex, Report};
+use rows::{Outcome, Seen, LEFT_ROWS, MOST_ROWS, ROW_WORDS};
+use spaces::Spaces;
+use stack::Deepest;
+use std::collections::BTreeMap;
+
+const RANDOM_CASES: usize = 105_000;
+const PATTERN_SETS: usize = 102_000;
+/// Random cases are evaluated as far as so many rows of space, and left out if they take more steps.
+const MOST_SPACE: usize = 300;
+const MOST_STEPS: u64 = 10_000;
+
+/// A vector is `TABLE QUERY WORDS => NUMBER PLACE ROWS PEAK PAIRS WRITTEN`; the zeros behind the rows are left out.
+fn vectors(report: &mut Report) {
+    let mut spaces = Spaces::new(3);
+    for vector in vectors::of("eval", include_str!("../vectors/base.txt")) {
+        let [table, query] = [0, 1].map(|i| vectors::bytes(&vector.inputs[i]));
+        let words = vectors::number(&vector.inputs[2]) as usize;
+        let [number, place, rows, peak, pairs] = [0, 1, 2, 3, 4].map(|i| vectors::number(&vector.answer[i]));
+        let what = format!("line {} of base.txt", vector.line);
+        let outcome = rows::evaluate(&table, &query);
+        let tally = Tally { answered: u32::from(number == 0), refused: u32::from(number != 0) };
+        let refusal = Refusal { number: number as u32, place };
+        let expected = Evaluated { refusal, rows: rows as u32, peak: peak as u32, pairs, tally };
+        let after = (number == 0 || number == 8).then(|| {
+            let mut space = vectors::words(&vector.answer[5]);
+            space.resize(words, 0);
+            space
+        });
+        let agrees = outcome.answer(words, Tally { answered: 0, refused: 0 }) == (expected, after);
+        report.case(agrees, || format!("{what}: rows.rs differs"));
+        spaces.test(report, &what, (&table, &query), &outcome, words);
+    }
+}
+
+/// Queries about as long as a call takes, tables about as long as a table may be, and NULL.
+fn at_limits(report: &mut Report) {
+    let mut spaces = Spaces::new(4);
+    let mut test = |what: &str, table: &[u8], query: &[u8], refusal| {
+        let outcome = rows::evaluate(table, query);
+        let read = if let Outcome::Refused(refusal) = outcome { refusal } else { NONE };
+        report.case(read == refusal, || format!("{what}: rows.rs differs"));
+        spaces.test_lengths(report, what, (table, query), &outcome);
+    };
+    for AtLimit { what, query, refusal } in limits::about(CHECK_LIMIT) {
+        test(&what, &[], &query, refusal);
+        test(&what, &tables::w(), &query, refusal);
+    }
+    for TableAtLimit { what, table, query, refusal } in limits::of_tables() {
+        test(what, &table, &query, refusal);
+    }
+    for NullInput { what, table, query, .. } in limits::null_inputs() {
+        let (table, query) = (table.as_deref(), query.as_deref());
+        let tally = spaces.tally();
+        let outcome = rows::evaluate(table.unwrap_or(&[]), query.unwrap_or(&[]));
+        let got = ffi::evaluate_or_null(table, query, None, tally);
+        let expected = outcome.answer(0, tally).0;
+        report.evaluate(what, (table.unwrap_or(&[]), query.unwrap_or(&[])), 0, expected, got);
+        let mut space = vec![9; 50];
+        let (expected, after) = outcome.answer(space.len(), tally);
+        let got = ffi::evaluate_or_null(table, query, Some(&mut space), tally);
+        report.evaluate(what, (table.unwrap_or(&[]), query.unwrap_or(&[])), space.len(), expected, got);
+        report.case(space == after.unwrap_or(vec![9; 50]), || format!("{what}: wrong words"));
+    }
+    let tally = spaces.tally();
+    let got = ffi::evaluate_or_null(None, Some(&vectors::query("S")), None, tally);
+    let expected = rows::evaluate(&[], &vectors::query("S")).answer(0, tally).0;
+    report.evaluate("no row, NULL row space", (&[], &[]), 0, expected, got);
+}
+
+/// Evaluations that need 65,535 rows, the greatest capacity, or one or two more. S lists every record.
+fn greatest_spaces(report: &mut Report) {
+    let mut spaces = Spaces::new(5);
+    let half = MOST_ROWS / 2;
+    for (what, records, query, rows) in [
+        ("65,535 rows", MOST_RECORDS, "S", Some(MOST_ROWS)),
+        ("65,535 rows in two parts", MOST_RECORDS - 1, "30 S 00", Some(MOST_ROWS)),
+        ("65,536 rows", MOST_RECORDS, "30 S 00", None),
+        ("65,536 rows, the first alone", MOST_RECORDS, "30 00 S", None),
+        ("65,536 rows, of which none is kept", MOST_RECORDS, "40 4070 30 00 S", None),
+        ("a join with space 65,535", half, "10 00 S", Some(half)),
+        ("a join with space 65,535, the other order", half, "10 S 00", Some(half)),
+        ("a left join with space 65,535", half, "20 70 00 S", Some(half)),
+        ("a join with space 65,536", half, "30 00 10 00 S", None),
+        ("a left join with space 65,536", half, "30 00 20 70 S 00", None),
+        ("a join with space 65,537", half + 1, "10 S 00", None),
+        ("154 rows of 65,535 records", MOST_RECORDS, "01 000011 100004 0ffff6", Some(154)),
+    ] {
+        let (table, query) = (tables::large(records), vectors::query(query));
+        let outcome = rows::evaluate(&table, &query);
+        let read = if let Outcome::Rows(evaluation) = &outcome { Some(evaluation.rows.len()) } else { None };
+        report.case(read == rows, || format!("{what}: rows.rs lists {read:?}"));
+        for words in [MOST_ROWS * 17 - 1, MOST_ROWS * 17, MOST_ROWS * 17 + 16, 65_536 * 17, 65_537 * 17 + 3, 70_000 * 17] {
+            spaces.test(report, what, (&table, &query), &outcome, words);
+        }
+    }
+    for query in ["00", "40 4070 00"] {
+        let query = vectors::query(query);
+        let outcome = rows::evaluate(&[], &query);
+        spaces.test(report, "a small query in a large row space", (&[], &query), &outcome, 70_000 * 17);
+    }
+}
+
+// ---- A query beside its rewriting
+
+/// How often the two evaluations had each pair of numbers, and how often the rewriting needed less.
+#[derive(Default)]
+struct Compared {
+    numbers: BTreeMap<(u32, u32), u64>,
+    lesser_peaks: u64,
+    fewer_pairs: u64,
+}
+
+impl Compared {
+    /// Evaluates a query and its rewriting, both by the calls, in row spaces of one length with different old contents and
+    /// with different tallies.
+    fn test(&mut self, report: &mut Report, spaces: &mut Spaces, what: &str, (table, query): (&[u8], &[u8]), words: usize) {
+        let mut output = [0; MOST_RESULT];
+        let rewritten = ffi::rewrite(query, &mut output);
+        if rewritten.refusal != NONE {
+            return;
+        }
+        let rewriting = &output[..rewritten.length as usize];
+        let [(one, one_space), (other, other_space)] = [query, rewriting].map(|query| {
+            let (mut space, tally) = (spaces.0.lend(words), spaces.tally());
+            (ffi::evaluate(table, query, space.slice_mut(), tally), space)
+        });
+        let good = match one.refusal.number {
+            0 => {
+                self.lesser_peaks += u64::from(other.peak < one.peak);
+                self.fewer_pairs += u64::from(other.pairs < one.pairs);
+                other.refusal == NONE
+                    && other.rows == one.rows
+                    && other_space.slice() == one_space.slice()
+                    && other.peak <= one.peak
+                    && other.pairs <= one.pairs
+            }
+            1..=4 => other.refusal == one.refusal,
+            8 => other.refusal == NONE || other.refusal == refusal(8, 0),
+            _ => false,
+        };
+        report.case(good, || {
+            let rewriting = format!("=> {one}, and of its rewriting {} => {other}", hex(rewriting));
+            format!("{what}: eval {} {} {words} {rewriting}", hex(table), hex(query))
+        });
+        *self.numbers.entry((one.refusal.number, other.refusal.number)).or_default() += 1;
+    }
+
+    fn enough(&self, report: &mut Report) {
+        for (one, other, least) in [(0, 0, 50_000), (8, 8, 10_000), (8, 0, 1_000), (1, 1, 100), (3, 3, 100), (4, 4, 100)] {
+            let count = self.numbers.get(&(one, other)).copied().unwrap_or(0);
+            println!("query and rewriting with numbers {one} and {other}: {count}");
+            report.case(count >= least, || format!("only {count} queries and rewritings with numbers {one} and {other}"));
+        }
+        let Compared { lesser_peaks, fewer_pairs, .. } = self;
+        println!("answered rewritings with a lesser peak: {lesser_peaks}, with fewer pairs: {fewer_pairs}");
+        report.case(*lesser_peaks >= 1_000 && *fewer_pairs >= 1_000, || "too few rewritings need less".to_string());
+    }
+}
+
+// ---- Random cases
+
+fn random_cases(report: &mut Report) {
+    let (mut random, mut spaces) = (Random::new(6), Spaces::new(7));
+    let (mut seen, mut compared) = (Seen::default(), Compared::default());
+    // Of answers with rows only.
+    let mut nested: Nested = [[0; KINDS]; KINDS];
+    let (mut numbers, mut with_rows, mut left_out) = ([0u64; 9], 0u64, 0);
+    for number in 0..RANDOM_CASES {
+        let mut nested_here = [[0; KINDS]; KINDS];
+        let (table, query) = inputs::narrow(&mut random, &mut nested_here);
+        let Some(outcome) = rows::evaluate_within(&table, &query, MOST_SPACE, MOST_STEPS, &mut seen) else {
+            left_out += 1;
+            continue;
+        };
+        let what = format!("random case {number}");
+        let lengths = spaces::lengths(&outcome);
+        for words in [lengths[0], lengths[1], random.pick(&lengths[2..])] {
+            spaces.test(report, &what, (&table, &query), &outcome, words);
+        }
+        for words in &lengths[..2] {
+            compared.test(report, &mut spaces, &what, (&table, &query), *words);
+        }
+        match &outcome {
+            Outcome::Refused(refused) => numbers[refused.number as usize] += 1,
+            Outcome::Above(_) => numbers[8] += 1,
+            Outcome::Rows(evaluation) => {
+                numbers[0] += 1;
+                let ceiling = ffi::ceiling(&table, &query);
+                let holds = ceiling.refusal == NONE && ceiling.ceiling as usize >= evaluation.rows.len();
+                report.case(holds, || format!("{what}: more rows than the ceiling {ceiling} of {}", hex(&query)));
+                if !evaluation.rows.is_empty() {
+                    with_rows += 1;
+                    nested.iter_mut().flatten().zip(nested_here.iter().flatten()).for_each(|(sum, count)| *sum += count);
+                }
+            }
+        }
+    }
+    println!("random cases with rows: {with_rows}; above {MOST_SPACE} rows of space: {}; left out: {left_out}", numbers[8]);
+    println!("random cases by number: {numbers:?}");
+    for number in [0, 1, 3, 4, 6, 7, 8] {
+        report.case(numbers[number] > 0, || format!("no random case has number {number}"));
+    }
+    report.case(with_rows > RANDOM_CASES as u64 / 3, || "too few random cases have rows".to_string());
+    report.case(left_out < RANDOM_CASES / 20, || "too many random cases are left out".to_string());
+    queries::all_nested(report, &nested, 100);
+    all_seen(report, &seen);
+    compared.enough(report);
+}
+
+/// Conditions must have had each truth, and left rows of left joins each outcome, if there is such a case.
+fn all_seen(report: &mut Report, seen: &Seen) {
+    for (kind, counts) in CONDITION_KINDS.iter().zip(seen.truths) {
+        for (truth, count) in TRUTHS.iter().zip(counts) {
+            let never = *kind == "true" && *truth != Some(true) || *kind == "bound" && truth.is_none();
+            report.case(never || count >= 500, || format!("{kind} was {truth:?} only {count} times"));
+        }
+    }
+    for (outcome, count) in LEFT_ROWS.iter().zip(seen.left_rows) {
+        println!("left rows of left joins that were {outcome}: {count}");
+        report.case(count >= 1_000, || format!("only {count} left rows were {outcome}"));
+    }
+}
+
+fn pattern_sets(report: &mut Report) {
+    let (mut random, mut spaces) = (Random::new(8), Spaces::new(9));
+    // By the number of patterns.
+    let (mut with_rows, mut left_out) = ([0; 16], 0);
+    for number in 0..PATTERN_SETS {
+        let (table, query) = inputs::pattern_set(&mut random);
+        let evaluated = rows::evaluate_within(&table, &query, MOST_SPACE, MOST_STEPS, &mut Seen::default());
+        let Some(outcome) = evaluated else {
+            left_out += 1;
+            continue;
+        };
+        let words = random.pick(&spaces::lengths(&outcome)[..2]);
+        spaces.test(report, &format!("pattern set {number}"), (&table, &query), &outcome, words);
+        if matches!(&outcome, Outcome::Rows(evaluation) if !evaluation.rows.is_empty()) {
+            with_rows[usize::from(query[0])] += 1;
+        }
+    }
+    println!("pattern sets with rows, by the number of patterns: {:?}; left out: {left_out}", &with_rows[1..]);
+    report.case(with_rows[1..].iter().all(|count| *count >= 50), || "too few pattern sets have rows".to_string());
+    report.case(left_out < PATTERN_SETS / 20, || "too many pattern sets are left out".to_string());
+}
+
+fn on_threads(report: &mut Report) {
+    let make = |random: &mut Random| loop {
+        let (table, query) = inputs::narrow(random, &mut [[0; KINDS]; KINDS]);
+        let evaluated = rows::evaluate_within(&table, &query, MOST_SPACE, MOST_STEPS / 10, &mut Seen::default());
+        if let Some(outcome) = evaluated {
+            let words = random.pick(&spaces::lengths(&outcome));
+            let tally = Tally { answered: random.below(9) as u32, refused: u32::MAX };
+            let (answer, after) = outcome.answer(words, tally);
+            break (table, query, tally, answer, after.unwrap_or(vec![0xA5; words]));
+        }
+    };
+    threads::all_right(report, make, |(table, query, tally, answer, after)| {
+        let mut space = vec![0xA5; after.len()];
+        ffi::evaluate(table, query, &mut space, *tally) == *answer && space == *after
+    });
+}
+
+/// Rows of space that do for every chain: at most one for two bytes, and two more.
+const CHAIN_WORDS: usize = (CHECK_LIMIT / 2 + 2) * ROW_WORDS;
+const CHAIN_TALLY: Tally = Tally { answered: 0, refused: 0 };
+
+fn deepest() -> Deepest<(Evaluated, Vec<u32>)> {
+    Deepest {
+        figure: "RANDWYLER_STACK_EVALUATE_KIB",
+        chains: chains::all(&[], CHECK_LIMIT),
+        call: |query| {
+            let mut space = vec![0xA5; CHAIN_WORDS];
+            (ffi::evaluate(&tables::w(), query, &mut space, CHAIN_TALLY), space)
+        },
+        expected: |query| {
+            let (answer, after) = rows::evaluate(&tables::w(), query).answer(CHAIN_WORDS, CHAIN_TALLY);
+            (answer, after.unwrap_or(vec![0xA5; CHAIN_WORDS]))
+        },
+    }
+}
+
+fn run() -> i32 {
+    let mut report = Report::default();
+    vectors(&mut report);
+    report.part("vectors");
+    known_rows::cases_of_document(&mut report);
+    known_rows::shortcuts(&mut report);
+    known_rows::left_joins(&mut report);
+    known_rows::other_nodes(&mut report);
+    report.part("rows by hand");
+    small_rows::truths(&mut report);
+    small_rows::all_small(&mut report);
+    report.part("conditions");
+    at_limits(&mut report);
+    greatest_spaces(&mut report);
+    report.part("limits");
+    pattern_sets(&mut report);
+    report.part("pattern sets");
+    random_cases(&mut report);
+    report.part("random cases");
+    on_threads(&mut report);
+    report.part("threads");
+    deepest().test(&mut report);
+    report.part("deepest queries");
+    report.finish()
+}
+
+fn main() {
+    stack::main(run, deepest);
+}

@@ -1,0 +1,59 @@
+//! Random tables with random queries, each sound or damaged.
+
+use crate::paper::CHECK_LIMIT;
+use crate::queries::{self, Nested, Query, MANY_PATTERNS, NARROW};
+use crate::random::Random;
+use crate::tables;
+
+/// Every sort of table and query that a check may meet.
+pub fn wide(random: &mut Random, nested: &mut Nested) -> (Vec<u8>, Vec<u8>) {
+    let size = tables::table_size(random);
+    let mut table = tables::table(random, size);
+    while random.once_in(5) {
+        tables::damage_table(random, &mut table);
+    }
+    let damaged = random.once_in(2);
+    (table, queries::random_query(random, nested, CHECK_LIMIT, damaged))
+}
+
+/// So many terms, mostly different; half of the time they are the least.
+fn few_terms(random: &mut Random, count: usize) -> Vec<u32> {
+    const TERMS: [u32; 10] = [1, 2, 15, 16, 255, 4_096, 65_535, 65_536, 0x80000, 0xFFFFF];
+    if random.once_in(2) {
+        return (1..=count as u32).collect();
+    }
+    (0..count).map(|_| random.pick(&TERMS)).collect()
+}
+
+/// Small tables of few terms, and queries about them. Most are sound.
+pub fn narrow(random: &mut Random, nested: &mut Nested) -> (Vec<u8>, Vec<u8>) {
+    let (records, terms) = (random.within(0, 24), random.within(2, 3));
+    let terms = few_terms(random, terms);
+    let mut table = tables::table_of_terms(random, records, |random| random.pick(&terms));
+    if random.once_in(25) {
+        tables::damage_table(random, &mut table);
+    }
+    let most = random.pick(&[4, 12, 30, 60]);
+    let budget = random.within(1, most);
+    let Query { mut bytes, pieces, .. } = Query::new(random, nested, &NARROW.with_terms(&terms), budget);
+    if random.once_in(25) {
+        queries::damage_query(random, &mut bytes, &pieces);
+    }
+    (table, bytes)
+}
+
+/// A table of at most 8 triples, and a set of patterns on it.
+pub fn pattern_set(random: &mut Random) -> (Vec<u8>, Vec<u8>) {
+    let records = random.within(0, 14);
+    let terms = few_terms(random, 2);
+    let table = tables::table_of_terms(random, records, |random| random.pick(&terms));
+    (table, queries::pattern_set(random, &MANY_PATTERNS.with_terms(&terms)))
+}
+
+/// A table of most of 27 or 64 triples and a long query about them: its ceiling may be above the greatest.
+pub fn dense(random: &mut Random, nested: &mut Nested) -> (Vec<u8>, Vec<u8>) {
+    let most = random.within(3, 4);
+    let table = tables::table_of_terms(random, 60, |random| random.within(1, most) as u32);
+    let budget = random.within(40, 300);
+    (table, Query::new(random, nested, &NARROW, budget).bytes)
+}

@@ -1,0 +1,73 @@
+//! Calls for valgrind: every slice stands alone on the heap, and row spaces are lent with nothing written in them. The answers
+//! are held to the independent readings too. The last line is 'N passed, M failed'.
+
+#[path = "../archive/ceilings.rs"]
+mod ceilings;
+#[path = "../archive/conditions.rs"]
+mod conditions;
+#[path = "../archive/fence.rs"]
+mod fence;
+#[path = "../archive/ffi.rs"]
+mod ffi;
+#[path = "../archive/inputs.rs"]
+mod inputs;
+#[path = "../archive/paper.rs"]
+mod paper;
+#[path = "../archive/push.rs"]
+mod push;
+#[path = "../archive/queries.rs"]
+mod queries;
+#[path = "../archive/random.rs"]
+mod random;
+#[path = "../archive/report.rs"]
+mod report;
+#[path = "../archive/rows.rs"]
+mod rows;
+#[path = "../archive/spaces.rs"]
+mod spaces;
+#[path = "../archive/tables.rs"]
+mod tables;
+
+use paper::Tally;
+use queries::KINDS;
+use random::Random;
+use report::Report;
+use rows::Seen;
+
+const CASES: usize = 1_000;
+const MOST_SPACE: usize = 200;
+const MOST_STEPS: u64 = 1_000;
+const TALLY: Tally = Tally { answered: 4, refused: u32::MAX };
+
+/// All calls with one table and one query.
+fn test(report: &mut Report, random: &mut Random, what: &str, table: &[u8], query: &[u8]) {
+    report.check(what, table, query, paper::check(table, query), ffi::check(table, query));
+    report.ceiling(what, table, query, ceilings::ceiling(table, query), ffi::ceiling(table, query));
+    let pushed = push::rewriting(query, &mut push::Seen::default());
+    let needed = pushed.as_ref().map_or(1, Vec::len);
+    for room in [needed - 1, needed] {
+        let mut output = vec![0xA5; room];
+        let (answer, written) = push::answer(&pushed, room);
+        report.rewrite(what, query, room, answer, ffi::rewrite(query, &mut output));
+        report.case(output.starts_with(written), || format!("{what}: another rewriting"));
+    }
+    let Some(outcome) = rows::evaluate_within(table, query, MOST_SPACE, MOST_STEPS, &mut Seen::default()) else { return };
+    let lengths = spaces::lengths(&outcome);
+    for words in [lengths[0], lengths[1], random.pick(&lengths)] {
+        let (expected, after) = outcome.answer(words, TALLY);
+        let (got, space) = ffi::evaluate_unwritten(table, query, words, TALLY);
+        report.evaluate(what, (table, query), words, expected, got);
+        report.case(space == after, || format!("{what}: wrong words"));
+    }
+}
+
+fn main() {
+    let (mut report, mut random) = (Report::default(), Random::new(1));
+    for number in 0..CASES {
+        let (table, query) = inputs::narrow(&mut random, &mut [[0; KINDS]; KINDS]);
+        // A boxed slice has no room behind its end.
+        let (table, query) = (table.into_boxed_slice(), query.into_boxed_slice());
+        test(&mut report, &mut random, &format!("case {number}"), &table, &query);
+    }
+    std::process::exit(report.finish());
+}
