@@ -46,10 +46,10 @@ struct randwyler_refusal {
 
 /* KiB of stack that do for every query that a call accepts, however deep; tests/archive/run measures what is needed and
  * holds it to these. */
-#define RANDWYLER_STACK_CHECK_KIB 1280
+#define RANDWYLER_STACK_CHECK_KIB 800
 #define RANDWYLER_STACK_REWRITE_KIB 272
-#define RANDWYLER_STACK_CEILING_KIB 4096
-#define RANDWYLER_STACK_EVALUATE_KIB 4096
+#define RANDWYLER_STACK_CEILING_KIB 800
+#define RANDWYLER_STACK_EVALUATE_KIB 1728
 
 /* Tests a table, and a query of at most 5,120 bytes. Two read-only slices are lent: no byte of them, and no other memory,
  * is written. */
