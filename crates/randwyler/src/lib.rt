@@ -206,7 +206,8 @@ fn evaluate_checked(
     tally: Tally,
 ) -> Evaluated
     requires { ⌜ Ready (viewOf view) (now table) (now query) ⌝ }
-    ensures { λ r. ⌜ Answered (viewOf view) (now (table .entry)) (now (query .entry)) (tallyIn tally) (now (space .entry)) (now (space .exit)) r ⌝ }
+    ensures { λ r. ⌜ Answered (viewOf view) (now (table .entry)) (now (query .entry)) (tallyIn tally)
+        (now (space .entry)) (now (space .exit)) r ⌝ }
 {
     match answer(table, view, query, space) {
         QueryRows::Refused { number, place } => evaluation_refused(number, place, tally),
@@ -230,7 +231,8 @@ pub extern "C" fn randwyler_evaluate(
     space: &mut [u32],
     tally: Tally,
 ) -> Evaluated
-    ensures { λ r. ⌜ evaluatedIn r (now (space .exit)) ≡ evaluate (tallyIn tally) (now (table .entry)) (now (query .entry)) (now (space .entry)) ⌝ }
+    ensures { λ r. ⌜ evaluatedIn r (now (space .exit))
+        ≡ evaluate (tallyIn tally) (now (table .entry)) (now (query .entry)) (now (space .entry)) ⌝ }
 {
     let c = check_both(table, query);
     match c {
