@@ -1,13 +1,12 @@
 -- The check by the answers of its parts: a refused table is refused, and the answer on the query stands where the table passes; and the
 -- ceiling of what was checked. Assumes nothing.
 use mathlib.Core.Path.{_≡_, sym, ap, _∙_}
-use mathlib.Core.Bool.{true, false}
 use mathlib.Core.List.{List}
 use Prim.Native.Nat.{ℕ, _*_, _/_, _≤_}
 use native.Mathlib.Omega.{arith}
 use lib.ListN.{length}
 use borrow.Author.Tests.{eqb-true}
-use Rattle.tsparql.specs.Check.{Refusal, refuse, Passes, passes, tableRefusal, check}
+use Rattle.tsparql.specs.Check.{refuse, Passes, check}
 use Rattle.tsparql.specs.Table.{wholeTable}
 use Rattle.tsparql.specs.Calls.{ceilingRefused, ceilingAnswered, ceilingIn, ceilingCall}
 use Rattle.table.specs.Answers as T
@@ -16,13 +15,11 @@ use Rattle.table.specs.declared.TableAnswer.the-variants as TA
 use Rattle.scope.specs.Variables as Q
 use Rattle.scope.specs.declared.QueryAnswer.the-variants as QA
 use Rattle.ceiling.specs.Answers.{CeilingIs}
-use Rattle.ceiling.specs.declared.CeilingRead.{CeilingRead}
 use Rattle.ceiling.specs.declared.CeilingRead.the-variants as CR
 use Rattle.ceiling.proofs.CheckedLaws.{checked-answered}
 use Rattle.patterns.specs.Matching.{viewOf}
-use Rattle.randwyler.specs.declared.CheckAnswer.{CheckAnswer}
 use Rattle.randwyler.specs.declared.CheckAnswer.the-variants.{Sound, Refused}
-use Rattle.randwyler.specs.Answers.{soundIn, checkedIn, viewIn, Checked, Ready}
+use Rattle.randwyler.specs.Answers.{Checked, Ready}
 
 -- ---- both
 

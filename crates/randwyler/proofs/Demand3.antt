@@ -31,15 +31,15 @@ module _ (t s out out′ : List ℕ) (r : Rewritten) (rewritten : rewrittenIn r 
   is-written : take (r .length) out′ ≡ written s out
   is-written = ap (λ w. take (w .size) (w .output)) rewritten
 
-  pub demand3-calls :
-      Demand3 least (wholeTable t) t s (take (r .length) out′) (length first) (evaluatedIn e first′ .evaluated) (evaluatedIn f second′ .evaluated)
+  pub demand3-calls : Demand3 least (wholeTable t) t s (take (r .length) out′) (length first) (evaluatedIn e first′ .evaluated)
+      (evaluatedIn f second′ .evaluated)
   demand3-calls =
       let w = take (r .length) out′ in
       let n = length first in
+      let left = evaluate (tallyIn a) t s first .evaluated in
       let base = demand3 t s out first second (tallyIn a) (tallyIn b) is-accepted same in
       let here =
-      subst (λ w. Demand3 least (wholeTable t) t s w n (evaluate (tallyIn a) t s first .evaluated) (evaluate (tallyIn b) t w second .evaluated))
-      (sym is-written) base in
+      subst (λ w. Demand3 least (wholeTable t) t s w n left (evaluate (tallyIn b) t w second .evaluated)) (sym is-written) base in
       let one =
       subst (λ x. Demand3 least (wholeTable t) t s w n (x .evaluated) (evaluate (tallyIn b) t w second .evaluated)) (sym query) here in
       subst (λ y. Demand3 least (wholeTable t) t s w n (evaluatedIn e first′ .evaluated) (y .evaluated)) (sym pushed) one

@@ -1,16 +1,16 @@
 -- Evaluation by the answers of its parts: what was refused by the check, and the answer to what passed it. Assumes nothing.
-use mathlib.Core.Path.{_≡_, refl, sym, ap, _∙_}
-use mathlib.Core.Bool.{true, false}
+use mathlib.Core.Path.{_≡_, sym}
+use mathlib.Core.Bool.{false}
 use mathlib.Core.List.{List}
-use Prim.Native.Nat.{ℕ, _*_, _/_, _≤_}
+use Prim.Native.Nat.{ℕ, _≤_}
 use native.Mathlib.Omega.{arith}
-use borrow.Author.Tests.{eqb-true, eqb-false}
+use borrow.Author.Tests.{eqb-false}
 use lib.ListN.{length}
 use Rattle.tsparql.specs.Table.{View, wholeTable, factsIn}
-use Rattle.tsparql.specs.Check.{refuse, Passes, passes, check, evaluateLimit}
+use Rattle.tsparql.specs.Check.{refuse, passes, check, evaluateLimit}
 use Rattle.tsparql.specs.Reading.{queryNode}
 use Rattle.tsparql.specs.PatternSets.{least}
-use Rattle.tsparql.specs.Evaluate.{Evaluated, refusedWith, answer, evaluateOver}
+use Rattle.tsparql.specs.Evaluate.{refusedWith, answer}
 use Rattle.tsparql.specs.Calls.{Tally, raiseOne, tallied, EvaluateAnswer, evaluate}
 use Rattle.tsparql.proofs.QueryLaws.{query-checked, check-parts}
 use Rattle.tsparql.proofs.EvaluateLaws.{evaluate-checked, evaluate-refused}
@@ -19,7 +19,7 @@ use Rattle.query.proofs.Forest.{query-reads}
 use Rattle.patterns.specs.Sets.{Seen}
 use Rattle.evaluation.specs.Evaluations.{isAnswered, answeredIn, Answers}
 use Rattle.evaluation.specs.declared.QueryRows.{QueryRows}
-use Rattle.randwyler.specs.declared.CheckAnswer.the-variants.{Sound, Refused}
+use Rattle.randwyler.specs.declared.CheckAnswer.the-variants.{Refused}
 use Rattle.randwyler.specs.Answers.{Checked, Ready}
 
 -- ---- what was checked

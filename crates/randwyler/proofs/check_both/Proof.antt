@@ -1,10 +1,8 @@
 -- By the answers on the table and on the query. Assumes nothing.
-use Rattle.randwyler.proofs.Checks.{table-refuses, query-refuses, both-pass}
 use borrow.Author.Needs.{needs}
+use Rattle.randwyler.proofs.Checks.{table-refuses, query-refuses, both-pass}
 use Rattle.randwyler.proofs.check_both.Statement.{statement}
 use Rattle.randwyler.proofs.check_both.Tie as tie
-use Rattle.scope.proofs.check_query.Reads as check-query-reads
-use Rattle.table.proofs.check_table.Reads as check-table-reads
 
 check-table-requires : tie.Need-check-table-requires
 check-table-requires c κs = search needs
@@ -26,14 +24,16 @@ enum-known-number-2 c = search needs
 
 returns : tie.Need-returns
 returns c =
-    let a = c .before .before .before .before .before .before .before .before .before .args in
-    both-pass (a .table .now) (a .query .now) _ (rw (c .before .before .before .before .view .given .1) at (c .before .before .before .before .before .before .check-table .ensures))
+    let v = c .before .before .before .before in
+    let a = v .before .before .before .before .before .args in
+    both-pass (a .table .now) (a .query .now) _ (rw (v .view .given .1) at (v .before .before .check-table .ensures))
     (rw (c .enum-told .given .1) at (c .before .before .check-query .ensures))
 
 returns-2 : tie.Need-returns-2
 returns-2 c =
-    let a = c .before .before .before .before .before .before .before .before .before .before .args in
-    query-refuses (a .table .now) (a .query .now) _ (rw (c .before .before .before .before .before .view .given .1) at (c .before .before .before .before .before .before .before .check-table .ensures))
+    let v = c .before .before .before .before .before in
+    let a = v .before .before .before .before .before .args in
+    query-refuses (a .table .now) (a .query .now) _ (rw (v .view .given .1) at (v .before .before .check-table .ensures))
     (rw (c .before .number .given .1) at (c .before .before .before .check-query .ensures))
 
 returns-3 : tie.Need-returns-3

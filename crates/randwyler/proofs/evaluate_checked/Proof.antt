@@ -1,24 +1,40 @@
 -- By the answer to the checked query. Assumes nothing.
-use mathlib.Core.Path.{_∙_, subst}
+use mathlib.Core.Path.{_≡_, subst, _∙_}
+use mathlib.Core.List.{List}
+use Prim.Native.Nat.{ℕ}
+use borrow.Author.Needs.{needs}
 use lib.ListN.{length}
 use Rattle.tsparql.specs.Table.{factsIn}
 use Rattle.query.specs.Variables.{nodeOf}
 use Rattle.patterns.specs.Matching.{viewOf}
+use Rattle.evaluation.specs.declared.QueryRows.{QueryRows}
 use Rattle.evaluation.specs.Evaluations.{Answers}
 use Rattle.randwyler.specs.Answers.{tallyIn}
 use Rattle.randwyler.proofs.Evaluations.{ready-seen, ready-node, counted}
-use borrow.Author.Needs.{needs}
 use Rattle.randwyler.proofs.evaluate_checked.Statement.{statement}
 use Rattle.randwyler.proofs.evaluate_checked.Tie as tie
-use Rattle.evaluation.proofs.answer.Reads as answer-reads
-use Rattle.randwyler.proofs.evaluation_refused.Reads as evaluation-refused-reads
-use Rattle.randwyler.proofs.with_answered.Reads as with-answered-reads
+
+-- the query is answered
+abbrev start-of : tie.After-answer → tie.Start
+start-of c = c .before .before .before .before .before
+
+abbrev out-at : tie.After-answer → List ℕ
+out-at c = c .answer .last .1 .1 .1 .0
+
+answers-at : (c : tie.After-answer) {r : QueryRows} → c .answer .result ≡ r
+    → let a = start-of c .args in
+    Answers (factsIn (viewOf (a .view)) (a .table .now)) (nodeOf (a .query .now)) (length (a .space .now)) (out-at c) r
+answers-at c e =
+    let a = start-of c .args in
+    let facts = factsIn (viewOf (a .view)) (a .table .now) in
+    subst (λ r. Answers facts (nodeOf (a .query .now)) (length (a .space .now)) (out-at c) r) e (c .answer .ensures)
 
 answer-requires : tie.Need-answer-requires
 answer-requires c κs =
-    let a = c .before .before .before .before .args in
-    let n = ready-node (viewOf (a .view)) (a .table .now) (a .query .now) (c .before .before .before .before .pre) in
-    (ready-seen (viewOf (a .view)) (a .table .now) (a .query .now) (c .before .before .before .before .pre), n .0, n .2)
+    let start = c .before .before .before .before in
+    let a = start .args in
+    let n = ready-node (viewOf (a .view)) (a .table .now) (a .query .now) (start .pre) in
+    (ready-seen (viewOf (a .view)) (a .table .now) (a .query .now) (start .pre), n .0, n .2)
 
 enum-known-number : tie.Need-enum-known-number
 enum-known-number c = search needs
@@ -37,24 +53,22 @@ same-length c = search needs
 
 returns : tie.Need-returns
 returns c =
-    let a = c .before .before .before .before .before .before .before .before .before .before .before .args in
-    let out = c .before .before .before .before .before .before .answer .last .1 .1 .1 .0 in
-    c .evaluation-refused .ensures out
-    ∙ counted (viewOf (a .view)) (a .table .now) (a .query .now) (tallyIn (a .tally)) (a .space .now) out _ (c .before .before .before .before .before .before .before .before .before .before .before .pre)
-    (subst (λ r. Answers (factsIn (viewOf (a .view)) (a .table .now)) (nodeOf (a .query .now)) (length (a .space .now)) out r)
-    (c .before .before .number .given .1) (c .before .before .before .before .before .before .answer .ensures))
+    let x = c .before .before .before .before .before .before in
+    let a = start-of x .args in
+    c .evaluation-refused .ensures (out-at x)
+    ∙ counted (viewOf (a .view)) (a .table .now) (a .query .now) (tallyIn (a .tally)) (a .space .now) (out-at x) _ (start-of x .pre)
+    (answers-at x (c .before .before .number .given .1))
 
 same-length-2 : tie.Need-same-length-2
 same-length-2 c = search needs
 
 returns-2 : tie.Need-returns-2
 returns-2 c =
-    let a = c .before .before .before .before .before .before .before .before .before .before .before .args in
-    let out = c .before .before .before .before .before .before .answer .last .1 .1 .1 .0 in
+    let x = c .before .before .before .before .before .before in
+    let a = start-of x .args in
     rw (c .with-answered .ensures)
-    (counted (viewOf (a .view)) (a .table .now) (a .query .now) (tallyIn (a .tally)) (a .space .now) out _ (c .before .before .before .before .before .before .before .before .before .before .before .pre)
-    (subst (λ r. Answers (factsIn (viewOf (a .view)) (a .table .now)) (nodeOf (a .query .now)) (length (a .space .now)) out r)
-    (c .before .before .rows .given .1) (c .before .before .before .before .before .before .answer .ensures)))
+    (counted (viewOf (a .view)) (a .table .now) (a .query .now) (tallyIn (a .tally)) (a .space .now) (out-at x) _ (start-of x .pre)
+    (answers-at x (c .before .before .rows .given .1)))
 
 pub evaluate-checked-spec : {M : Type 1} → statement M
 evaluate-checked-spec =

@@ -2,7 +2,6 @@
 use borrow.Author.Needs.{needs}
 use Rattle.randwyler.proofs.evaluation_refused.Statement.{statement}
 use Rattle.randwyler.proofs.evaluation_refused.Tie as tie
-use Rattle.randwyler.proofs.with_refused.Reads as with-refused-reads
 
 with-refused-requires : tie.Need-with-refused-requires
 with-refused-requires c κs = search needs

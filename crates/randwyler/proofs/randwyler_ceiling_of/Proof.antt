@@ -1,12 +1,9 @@
 -- By the answer of the check of both, and the ceiling of the node. Assumes nothing.
 use mathlib.Core.Path.{_∙_}
-use Rattle.randwyler.proofs.Checks.{ceiling-refuses, view-inside, ceiling-answers, ceiling-sound}
 use borrow.Author.Needs.{needs}
+use Rattle.randwyler.proofs.Checks.{ceiling-refuses, view-inside, ceiling-answers, ceiling-sound}
 use Rattle.randwyler.proofs.randwyler_ceiling_of.Statement.{statement}
 use Rattle.randwyler.proofs.randwyler_ceiling_of.Tie as tie
-use Rattle.ceiling.proofs.ceiling_node.Reads as ceiling-node-reads
-use Rattle.randwyler.proofs.ceiling_refused.Reads as ceiling-refused-reads
-use Rattle.randwyler.proofs.check_both.Reads as check-both-reads
 
 check-both-requires : tie.Need-check-both-requires
 check-both-requires c κs = search needs
@@ -36,20 +33,23 @@ enum-known-ceiling c = search needs
 
 returns : tie.Need-returns
 returns c =
-    let a = c .before .before .before .before .before .before .before .args in
+    let checked = c .before .before .before .before in
+    let a = checked .before .before .before .args in
     c .ceiling-refused .ensures
-    ∙ ceiling-refuses (a .table .now) (a .query .now) (rw (c .before .before .c .given .1) at (c .before .before .before .before .check-both .ensures))
+    ∙ ceiling-refuses (a .table .now) (a .query .now) (rw (c .before .before .c .given .1) at (checked .check-both .ensures))
 
 returns-2 : tie.Need-returns-2
 returns-2 c =
-    let a = c .before .before .before .before .before .before .before .before .before .before .before .args in
-    absurd (ceiling-sound (a .table .now) (a .query .now) _ (rw (c .before .before .before .before .before .before .c2 .given .1) at (c .before .before .before .before .before .before .before .before .check-both .ensures))
+    let k = c .before .before .before .before .before .before in
+    let a = k .before .before .before .before .before .args in
+    absurd (ceiling-sound (a .table .now) (a .query .now) _ (rw (k .c2 .given .1) at (k .before .before .check-both .ensures))
     (rw (c .before .before .number .given .1) at (c .before .before .before .before .ceiling-node .ensures)))
 
 returns-3 : tie.Need-returns-3
 returns-3 c =
-    let a = c .before .before .before .before .before .before .before .before .before .before .args in
-    ceiling-answers (a .table .now) (a .query .now) _ (rw (c .before .before .before .before .before .c2 .given .1) at (c .before .before .before .before .before .before .before .check-both .ensures))
+    let k = c .before .before .before .before .before in
+    let a = k .before .before .before .before .before .args in
+    ceiling-answers (a .table .now) (a .query .now) _ (rw (k .c2 .given .1) at (k .before .before .check-both .ensures))
     (rw (c .before .ceiling .given .1) at (c .before .before .before .ceiling-node .ensures))
 
 pub randwyler-ceiling-of-spec : {M : Type 1} → statement M

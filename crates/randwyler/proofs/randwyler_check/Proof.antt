@@ -2,7 +2,6 @@
 use borrow.Author.Needs.{needs}
 use Rattle.randwyler.proofs.randwyler_check.Statement.{statement}
 use Rattle.randwyler.proofs.randwyler_check.Tie as tie
-use Rattle.randwyler.proofs.check_both.Reads as check-both-reads
 
 check-both-requires : tie.Need-check-both-requires
 check-both-requires c κs = search needs

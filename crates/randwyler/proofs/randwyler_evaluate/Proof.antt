@@ -1,15 +1,11 @@
 -- By the answer of the check of both, and that to a checked query. Assumes nothing.
 use mathlib.Core.Path.{_∙_}
-use Rattle.patterns.specs.Matching.{viewOf}
+use borrow.Author.Needs.{needs}
 use Rattle.randwyler.specs.Answers.{tallyIn}
 use Rattle.randwyler.proofs.Checks.{checked-ready}
 use Rattle.randwyler.proofs.Evaluations.{evaluate-refuses, evaluate-answers}
-use borrow.Author.Needs.{needs}
 use Rattle.randwyler.proofs.randwyler_evaluate.Statement.{statement}
 use Rattle.randwyler.proofs.randwyler_evaluate.Tie as tie
-use Rattle.randwyler.proofs.check_both.Reads as check-both-reads
-use Rattle.randwyler.proofs.evaluate_checked.Reads as evaluate-checked-reads
-use Rattle.randwyler.proofs.evaluation_refused.Reads as evaluation-refused-reads
 
 check-both-requires : tie.Need-check-both-requires
 check-both-requires c κs = search needs
@@ -25,24 +21,27 @@ enum-known-c-2 c = search needs
 
 evaluate-checked-requires : tie.Need-evaluate-checked-requires
 evaluate-checked-requires c κs =
-    let a = c .before .before .before .before .before .before .before .before .args in
-    checked-ready (a .table .now) (a .query .now) _ (rw (c .before .before .c2 .given .1) at (c .before .before .before .before .check-both .ensures))
+    let k = c .before .before in
+    let a = k .before .before .before .before .before .before .args in
+    checked-ready (a .table .now) (a .query .now) _ (rw (k .c2 .given .1) at (k .before .before .check-both .ensures))
 
 returns : tie.Need-returns
 returns c =
     let a = c .before .before .before .before .before .before .before .before .args in
     c .evaluation-refused .ensures (a .space .now)
-    ∙ evaluate-refuses (a .table .now) (a .query .now) (tallyIn (a .tally)) (a .space .now) (rw (c .before .before .c .given .1) at (c .before .before .before .before .check-both .ensures))
+    ∙ evaluate-refuses (a .table .now) (a .query .now) (tallyIn (a .tally)) (a .space .now)
+    (rw (c .before .before .c .given .1) at (c .before .before .before .before .check-both .ensures))
 
 same-length : tie.Need-same-length
 same-length c = search needs
 
 returns-2 : tie.Need-returns-2
 returns-2 c =
-    let a = c .before .before .before .before .before .before .before .before .before .before .before .args in
+    let k = c .before .before .before .before .before in
+    let a = k .before .before .before .before .before .before .args in
     c .before .before .evaluate-checked .ensures
     ∙ evaluate-answers _ (a .table .now) (a .query .now) (tallyIn (a .tally)) (a .space .now)
-    (checked-ready (a .table .now) (a .query .now) _ (rw (c .before .before .before .before .before .c2 .given .1) at (c .before .before .before .before .before .before .before .check-both .ensures)))
+    (checked-ready (a .table .now) (a .query .now) _ (rw (k .c2 .given .1) at (k .before .before .check-both .ensures)))
 
 pub randwyler-evaluate-spec : {M : Type 1} → statement M
 randwyler-evaluate-spec =

@@ -2,7 +2,6 @@
 use borrow.Author.Needs.{needs}
 use Rattle.randwyler.proofs.randwyler_rewrite.Statement.{statement}
 use Rattle.randwyler.proofs.randwyler_rewrite.Tie as tie
-use Rattle.rewriting.proofs.rewrite.Reads as rewrite-reads
 
 rewrite-requires : tie.Need-rewrite-requires
 rewrite-requires c κs = search needs

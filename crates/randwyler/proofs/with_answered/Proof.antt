@@ -2,7 +2,6 @@
 use borrow.Author.Needs.{needs}
 use Rattle.randwyler.proofs.with_answered.Statement.{statement}
 use Rattle.randwyler.proofs.with_answered.Tie as tie
-use Rattle.randwyler.proofs.one_more.Reads as one-more-reads
 
 one-more-requires : tie.Need-one-more-requires
 one-more-requires c κs = search needs
