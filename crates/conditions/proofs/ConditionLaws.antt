@@ -20,11 +20,11 @@ use Rattle.tsparql.proofs.ReaderSteps.{readCondition-step}
 use Rattle.tsparql.proofs.WrittenRead.{ReadsCondition, readCondition-sound}
 use Rattle.query.specs.declared.ConditionHead.{ConditionHead}
 use Rattle.query.specs.declared.ConditionHead.the-variants as C
-use Rattle.query.specs.Answers.{faultIn}
+use Rattle.query.specs.Answers.{faultIn, faultRefusal}
 use Rattle.query.specs.Parts.{mapRead, follow, pairHead, termHead, conditionHeadRead, conditionOperands}
 use Rattle.query.specs.Variables.{IsGot}
 use Rattle.query.proofs.ReadLaws.{by-kind}
-use Rattle.conditions.specs.Truths.{truthIn, ConditionSound, foundCondition, conditionOf, HeadFormed, headTruth, faultRefusal, Judges}
+use Rattle.conditions.specs.Truths.{truthIn, ConditionSound, foundCondition, conditionOf, HeadFormed, headTruth, Judges}
 use Rattle.conditions.specs.declared.Truth.{Truth}
 use Rattle.conditions.specs.declared.Judged.the-variants as J
 

@@ -13,6 +13,7 @@ use Rattle.tsparql.specs.WellFormed.{VariableFormed}
 use Rattle.tsparql.specs.Check.{Refusal, refuse, noRefusal}
 use Rattle.query.specs.declared.ConditionHead.{ConditionHead}
 use Rattle.query.specs.declared.ConditionHead.the-variants as C
+use Rattle.query.specs.Answers.{faultRefusal}
 use Rattle.query.specs.Parts.{mapRead}
 use Rattle.query.specs.Variables.{IsGot}
 use Rattle.conditions.specs.declared.Truth.{Truth}
@@ -76,11 +77,6 @@ judgedFound (J.Refused n p) = fault p
 abbrev pub judgedRefusal : Judged → Refusal
 judgedRefusal (J.Truth t n) = noRefusal
 judgedRefusal (J.Refused n p) = refuse n p
-
--- 6 at a fault
-abbrev pub faultRefusal : {A : Type 0} → Read A → Refusal
-faultRefusal (got a n) = noRefusal
-faultRefusal (fault p) = refuse 6 p
 
 -- the answer is the truth of the part's condition on a row's cells, with the next place, or the refusal of its first fault
 pub record Judges (s : List ℕ) (cs : List Cell) (r : Judged) : Type 0 where

@@ -6,6 +6,7 @@ use Rattle.tsparql.specs.Query.{Condition, bound, same, isTerm, less, negation,
 use Rattle.tsparql.specs.Query.{Node, patternSet, join, leftJoin, union, filter, projectTrust, ensureTrust}
 use Rattle.tsparql.specs.Reading.{Read, got, fault, slotOf}
 use lib.ListN.{length}
+use Rattle.tsparql.specs.Check.{Refusal, refuse, noRefusal}
 use Rattle.query.specs.declared.Pattern.{Pattern}
 use Rattle.query.specs.declared.PatternRead.{PatternRead}
 use Rattle.query.specs.declared.PatternRead.the-variants as P
@@ -69,3 +70,18 @@ placeFound (L.Fault p) = fault p
 abbrev pub faultIn : {A : Type 0} → Read A → ℕ
 faultIn (got a n) = 0
 faultIn (fault p) = p
+
+-- 6 at the place of a fault
+abbrev pub faultRefusal : {A : Type 0} → Read A → Refusal
+faultRefusal (got a n) = noRefusal
+faultRefusal (fault p) = refuse 6 p
+
+-- how many patterns a head has
+abbrev pub patternCount : Head → ℕ
+patternCount (H.PatternSet n) = n
+patternCount H.Join = 0
+patternCount H.LeftJoin = 0
+patternCount H.Union = 0
+patternCount H.Filter = 0
+patternCount (H.ProjectTrust v) = 0
+patternCount (H.EnsureTrust l u) = 0
