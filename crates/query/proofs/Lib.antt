@@ -4,5 +4,4 @@ pub mod ConditionParts
 pub mod PatternParts
 pub mod NodeParts
 pub mod Forest
-pub mod WriterLaws
 pub mod Operands

@@ -2,4 +2,3 @@
 pub mod Answers
 pub mod Parts
 pub mod Variables
-pub mod Writers

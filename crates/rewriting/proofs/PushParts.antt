@@ -18,7 +18,7 @@ use Rattle.tsparql.proofs.QuerySize.{nodeSize}
 use Rattle.tsparql.proofs.WrittenRead.{ReadsNode, readNode-sound}
 use Rattle.query.specs.declared.Head.{Head}
 use Rattle.query.specs.declared.Head.the-variants as H
-use Rattle.query.specs.Writers.{boundsBytes, Wrote, WroteIfFits}
+use Rattle.encoding.specs.Writers.{boundsBytes, Wrote, WroteIfFits}
 use Rattle.query.specs.Answers.{nodeHead}
 use Rattle.query.specs.Variables.{NodeSound, nodeOf}
 use Rattle.query.proofs.Forest.{operandsIn, operandsAt}

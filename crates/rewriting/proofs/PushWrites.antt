@@ -16,10 +16,10 @@ use Rattle.tsparql.proofs.PushQuery.{BoundFormed, trustFloor-formed, meet-forme
 use Rattle.query.specs.declared.Head.{Head}
 use Rattle.query.specs.Answers.{nodeHead}
 use Rattle.query.specs.Variables.{NodeSound, nodeOf}
-use Rattle.query.specs.Writers.{Wrote}
+use Rattle.encoding.specs.Writers.{Wrote}
 use Rattle.query.proofs.ReadLaws.{part-drop}
 use Rattle.query.proofs.Operands.{Own}
-use Rattle.query.proofs.WriterLaws.{wrote-behind}
+use Rattle.encoding.proofs.WriterLaws.{wrote-behind}
 use Rattle.rewriting.specs.declared.Pushed.{Pushed}
 use Rattle.rewriting.specs.declared.Pushed.the-variants as P
 use Rattle.rewriting.specs.Bounds.{firstBound, secondBound}

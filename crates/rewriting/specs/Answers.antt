@@ -11,7 +11,7 @@ use Rattle.tsparql.specs.Rewrite as D
 use Rattle.tsparql.specs.Rewrite.{rewriteLimit, wroteNothing}
 use Rattle.tsparql.proofs.PushQuery.{BoundFormed}
 use Rattle.query.specs.Variables.{NodeSound, nodeOf}
-use Rattle.query.specs.Writers.{Wrote}
+use Rattle.encoding.specs.Writers.{Wrote}
 use Rattle.rewriting.specs.declared.Pushed.{Pushed}
 use Rattle.rewriting.specs.declared.Pushed.the-variants as P
 use Rattle.rewriting.specs.declared.RewriteAnswer.{RewriteAnswer}

@@ -17,9 +17,9 @@ use Rattle.query.specs.declared.Head.{Head}
 use Rattle.query.specs.Answers.{nodeFound}
 use Rattle.query.specs.Parts.{nodeOperands}
 use Rattle.query.specs.Variables.{nodeOf}
-use Rattle.query.specs.Writers.{Wrote}
+use Rattle.encoding.specs.Writers.{Wrote}
 use Rattle.query.proofs.Operands.{Own, TwoOperands, own-found, own-sound, no-operand, one-operand, first-sound, second-operand}
-use Rattle.query.proofs.WriterLaws.{wrote-long}
+use Rattle.encoding.proofs.WriterLaws.{wrote-long}
 use Rattle.query.proofs.node_fault.Reads as node-fault-reads
 use Rattle.query.proofs.node_operands.Reads as node-operands-reads
 use Rattle.query.proofs.read_own.Reads as read-own-reads

@@ -7,9 +7,9 @@ use native.Mathlib.Omega.{arith}
 use borrow.Author.Needs.{needs}
 use lib.ListN.{length, take, drop, length-drop}
 use lib.Seq.{length-take-le, take-length}
-use Rattle.query.specs.Writers.{Wrote}
+use Rattle.encoding.specs.Writers.{Wrote}
 use Rattle.query.proofs.ReadLaws.{part-drop}
-use Rattle.query.proofs.WriterLaws.{wrote-long, wrote-behind}
+use Rattle.encoding.proofs.WriterLaws.{wrote-long, wrote-behind}
 use Rattle.rewriting.specs.Bounds.{boundIn, stays, wrapped, wrapBytes}
 use Rattle.rewriting.proofs.PushParts.{wrap-size, own-wrapped, own-bare, own-gone}
 use Rattle.rewriting.proofs.write_own.Statement.{statement}

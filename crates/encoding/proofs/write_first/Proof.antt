@@ -3,10 +3,10 @@ use mathlib.Core.List.{[], _∷_}
 use native.Mathlib.Omega.{arith}
 use borrow.Author.Tests.{lt-ltb, le-ltb}
 use Rattle.tsparql.specs.Writing.{firstByte}
-use Rattle.query.proofs.WriterLaws.{stored-if, misfits-if, nothing-wrote}
+use Rattle.encoding.proofs.WriterLaws.{stored-if, misfits-if, nothing-wrote}
 use borrow.Author.Needs.{needs}
-use Rattle.query.proofs.write_first.Statement.{statement}
-use Rattle.query.proofs.write_first.Tie as tie
+use Rattle.encoding.proofs.write_first.Statement.{statement}
+use Rattle.encoding.proofs.write_first.Tie as tie
 
 mul-out : tie.Need-mul-out
 mul-out c = search needs

@@ -3,8 +3,8 @@ use native.Mathlib.Numerals.{add-one, add-two}
 use native.Mathlib.Omega.{arith}
 use lib.ListN.{length-set}
 use borrow.Author.Needs.{needs}
-use Rattle.query.proofs.put_bits.Statement.{statement}
-use Rattle.query.proofs.put_bits.Tie as tie
+use Rattle.encoding.proofs.put_bits.Statement.{statement}
+use Rattle.encoding.proofs.put_bits.Tie as tie
 
 cast-out : tie.Need-cast-out
 cast-out c = search needs

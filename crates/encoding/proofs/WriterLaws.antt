@@ -13,9 +13,9 @@ use lib.Seq.{sets, sets-eq, take-at, drop-at, drop-drop, drop-length}
 use Rattle.tsparql.specs.Writing.{patternBytes}
 use Rattle.tsparql.specs.Reading.{slotSound}
 use Rattle.tsparql.proofs.WrittenRead.{slotOf-sound}
 use Rattle.query.specs.declared.Pattern.{Pattern}
-use Rattle.query.specs.Writers.{slotsBytes, soundPatternBytes, Wrote, WroteIfFits}
+use Rattle.encoding.specs.Writers.{slotsBytes, soundPatternBytes, Wrote, WroteIfFits}
 use Rattle.query.proofs.ReadLaws.{part-drop}
 
 -- bytes stored one by one from the front
 wrote-sets : (ws out : List ℕ) → length ws ≤ length out → Wrote ws out (sets out 0 ws) (length ws)

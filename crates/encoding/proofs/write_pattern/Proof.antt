@@ -4,11 +4,11 @@ use mathlib.Core.Bool.{true, _&&_}
 use native.Mathlib.Omega.{arith}
 use Rattle.tsparql.specs.Reading.{slotSound}
 use Rattle.tsparql.proofs.WrittenRead.{slotSound-range}
-use Rattle.query.specs.Writers.{slotsBytes, soundPatternBytes}
-use Rattle.query.proofs.WriterLaws.{stored, misfits, nothing-wrote, and-false, false-and, pattern-slots}
+use Rattle.encoding.specs.Writers.{slotsBytes, soundPatternBytes}
+use Rattle.encoding.proofs.WriterLaws.{stored, misfits, nothing-wrote, and-false, false-and, pattern-slots}
 use borrow.Author.Needs.{needs}
-use Rattle.query.proofs.write_pattern.Statement.{statement}
-use Rattle.query.proofs.write_pattern.Tie as tie
+use Rattle.encoding.proofs.write_pattern.Statement.{statement}
+use Rattle.encoding.proofs.write_pattern.Tie as tie
 
 slot-sound-requires : tie.Need-slot-sound-requires
 slot-sound-requires c κs = search needs

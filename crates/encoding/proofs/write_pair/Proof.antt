@@ -4,10 +4,10 @@ use native.Mathlib.Omega.{arith}
 use borrow.Author.Tests.{lt-ltb, le-ltb}
 use lib.Dec.{ltb}
 use Rattle.tsparql.specs.Writing.{firstByte}
-use Rattle.query.proofs.WriterLaws.{stored-if, misfits-if, nothing-wrote, and-true, and-false, false-and}
+use Rattle.encoding.proofs.WriterLaws.{stored-if, misfits-if, nothing-wrote, and-true, and-false, false-and}
 use borrow.Author.Needs.{needs}
-use Rattle.query.proofs.write_pair.Statement.{statement}
-use Rattle.query.proofs.write_pair.Tie as tie
+use Rattle.encoding.proofs.write_pair.Statement.{statement}
+use Rattle.encoding.proofs.write_pair.Tie as tie
 
 mul-out : tie.Need-mul-out
 mul-out c = search needs

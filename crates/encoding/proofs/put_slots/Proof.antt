@@ -3,8 +3,8 @@ use mathlib.Core.Path.{ap, _∙_}
 use lib.Seq.{sets}
 use Rattle.tsparql.specs.Writing.{threeBytes}
 use borrow.Author.Needs.{needs}
-use Rattle.query.proofs.put_slots.Statement.{statement}
-use Rattle.query.proofs.put_slots.Tie as tie
+use Rattle.encoding.proofs.put_slots.Statement.{statement}
+use Rattle.encoding.proofs.put_slots.Tie as tie
 
 put-bits-requires : tie.Need-put-bits-requires
 put-bits-requires c κs = search needs

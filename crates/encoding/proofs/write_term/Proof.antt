@@ -7,10 +7,10 @@ use lib.Dec.{ltb}
 use lib.ListN.{length, length-set}
 use Rattle.tsparql.specs.Writing.{firstByte, threeBytes}
 use Rattle.tsparql.proofs.WrittenRead.{termSound-formed}
-use Rattle.query.proofs.WriterLaws.{stored-if, misfits-if, nothing-wrote, and-true, and-false, false-and}
+use Rattle.encoding.proofs.WriterLaws.{stored-if, misfits-if, nothing-wrote, and-true, and-false, false-and}
 use borrow.Author.Needs.{needs}
-use Rattle.query.proofs.write_term.Statement.{statement}
-use Rattle.query.proofs.write_term.Tie as tie
+use Rattle.encoding.proofs.write_term.Statement.{statement}
+use Rattle.encoding.proofs.write_term.Tie as tie
 
 term-sound-requires : tie.Need-term-sound-requires
 term-sound-requires c κs = search needs

@@ -1,7 +1,7 @@
 -- By the head. Assumes nothing.
 use borrow.Author.Needs.{needs}
-use Rattle.query.proofs.write_head.Statement.{statement}
-use Rattle.query.proofs.write_head.Tie as tie
+use Rattle.encoding.proofs.write_head.Statement.{statement}
+use Rattle.encoding.proofs.write_head.Tie as tie
 
 enum-known-h : tie.Need-enum-known-h
 enum-known-h c = search needs

@@ -8,10 +8,10 @@ use lib.Dec.{leb}
 use lib.ListN.{length}
 use lib.ListN.{length-set}
 use Rattle.tsparql.specs.Writing.{firstByte, threeBytes}
-use Rattle.query.proofs.WriterLaws.{stored-if, misfits-if, nothing-wrote, and-true, and-false, false-and}
+use Rattle.encoding.proofs.WriterLaws.{stored-if, misfits-if, nothing-wrote, and-true, and-false, false-and}
 use borrow.Author.Needs.{needs}
-use Rattle.query.proofs.write_bounds.Statement.{statement}
-use Rattle.query.proofs.write_bounds.Tie as tie
+use Rattle.encoding.proofs.write_bounds.Statement.{statement}
+use Rattle.encoding.proofs.write_bounds.Tie as tie
 
 slice-write-out : tie.Need-slice-write-out
 slice-write-out c = search needs

@@ -1,0 +1,2 @@
+-- The bytes that the writers put into an output.
+pub mod Writers
