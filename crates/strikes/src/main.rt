@@ -1,5 +1,6 @@
 // Evaluates the query in `query.bin` over the facts in `facts.bin`, both in the current folder, and prints what `report` promises: the
-// counts and the rows, or a refusal. An absent file is an empty one; one that fills its buffer is too long, and refused as such.
+// counts and the rows, or a refusal. An absent file is an empty one. Of a file that is too long one byte past its limit is read, which
+// is enough (strikes-fronts of report's LongFiles).
 ghost use Rattle.io.specs.Counts.{Counts};
 use libc::STDOUT_FILENO;
 use report::write_strikes;
