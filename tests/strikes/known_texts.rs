@@ -26,7 +26,7 @@ impl Texts<'_> {
     }
 }
 
-/// Cases 1 to 6 and 8 of document 01. The other two are about calls that the program does not make.
+/// Cases 1 to 6 and 8 of document 01. Case 7 is about another row space, and 9 about the ceiling.
 pub fn cases_of_document(program: &Program, report: &mut Report) {
     let mut texts = Texts { program, report };
     texts.on_w("case 1", "E 10 A B", "rows 1 peak 6 pairs 4\n800 ?0=1 ?1=11\n");

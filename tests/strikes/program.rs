@@ -1,6 +1,6 @@
 //! The program under test, run in a temporary folder on two files.
 
-use crate::report::Report;
+use crate::report::{hex, Report};
 use std::env;
 use std::fs;
 use std::path::PathBuf;
@@ -41,7 +41,8 @@ pub struct Program {
 
 impl Program {
     pub fn new() -> Program {
-        let path = env::var("RANDWYLER_STRIKES").unwrap_or(BUILT.to_string());
+        let other = env::var("RANDWYLER_STRIKES").ok().filter(|path| !path.is_empty());
+        let path = other.unwrap_or(BUILT.to_string());
         let path = fs::canonicalize(&path).unwrap_or_else(|error| panic!("no program {path}: {error}"));
         let folder = env::temp_dir().join(format!("strikes-{}", process::id()));
         fs::create_dir(&folder).expect("a temporary folder");
@@ -83,9 +84,8 @@ impl Program {
         let got = self.print(files);
         report.case(got.as_deref() == Ok(expected.as_bytes()), || {
             let got = got.map_or_else(|error| error, |text| shown(&text));
-            let (facts, query) = files.bytes();
-            let files = format!("facts {} query {}", crate::report::hex(facts), crate::report::hex(query));
-            format!("{what}: {files}: expected {}, but got {got}", shown(expected.as_bytes()))
+            let [facts, query] = files.named().map(|(_, bytes)| bytes.as_deref().map_or("absent".to_string(), hex));
+            format!("{what}: facts {facts} query {query}: expected {}, but got {got}", shown(expected.as_bytes()))
         });
     }
 }
