@@ -9,6 +9,8 @@ mod conditions;
 #[path = "../archive/inputs.rs"]
 mod inputs;
 mod known_texts;
+#[path = "../archive/limits.rs"]
+mod limits;
 #[path = "../archive/paper.rs"]
 mod paper;
 mod printer;
@@ -68,12 +70,10 @@ fn long_query(random: &mut Random) -> Vec<u8> {
     let most = random.pick(&[10, 10_000]);
     let length = CHECK_LIMIT + random.within(1, most);
     if random.once_in(2) {
-        return random.noise(length);
+        random.noise(length)
+    } else {
+        limits::unions(length)
     }
-    let mut query = vec![0x53; 1 - length % 2];
-    query.extend([0x30, 0x00].repeat((length - 1) / 2));
-    query.push(0x00);
-    query
 }
 
 /// About as many records as rows fit, and a query that lists all of them, or most.
