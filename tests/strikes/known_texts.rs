@@ -180,6 +180,20 @@ pub fn row_limit(program: &Program, report: &mut Report) {
     }
 }
 
+/// Joins of 481 and 482 rows that are never compatible: as many pairs as 963 rows allow, once and in as many joins as a query holds.
+pub fn most_pairs(program: &Program, report: &mut Report) {
+    let of = |predicate: u32, subjects: std::ops::RangeInclusive<u32>| {
+        subjects.map(move |subject| ([subject, predicate, 1], None))
+    };
+    let facts = tables::facts(&of(1, 1..=481).chain(of(2, 1_001..=1_482)).collect::<Vec<_>>());
+    let join = "10 01 100000 000001 100001 01 100000 000002 100002";
+    let joins = vectors::query(&format!("{}{join}", format!("30 {join} ").repeat(231)));
+    assert_eq!(joins.len(), 5_103);
+    let mut texts = Texts { program, report };
+    texts.test("a join of the most pairs", &facts, &vectors::query(join), "rows 0 peak 963 pairs 231842\n");
+    texts.test("232 such joins", &facts, &joins, "rows 0 peak 963 pairs 53787344\n");
+}
+
 /// The longest lines: 16 variables whose terms have 7 digits, and a trust of -1000. 963 of them are nearly the longest text.
 pub fn longest(program: &Program, report: &mut Report) {
     let mut facts: Vec<_> = (1..=963).map(|i| ([1_000_001, 1_000_000, 1_000_000 + i], Some(-1_000))).collect();

@@ -43,7 +43,7 @@ use std::thread;
 
 const RANDOM_RUNS: usize = 5_000;
 /// Random runs that take the independent evaluation more steps are left out.
-const MOST_STEPS: u64 = 200_000;
+const MOST_STEPS: u64 = 500_000;
 /// Every kind of run must have come so often.
 const LEAST: u64 = 20;
 
@@ -76,12 +76,15 @@ fn long_query(random: &mut Random) -> Vec<u8> {
     }
 }
 
-/// About as many records as rows fit, and a query that lists all of them, or most.
+/// About as many records as rows fit, and a query that lists all of them, or most; or half as many, and a join in which no row is
+/// compatible with another.
 fn about_capacity(random: &mut Random) -> (Vec<u8>, Vec<u8>) {
-    let count = random.within(CAPACITY - 3, CAPACITY + 3) as u32;
+    let (rows, halves) = (random.within(CAPACITY - 3, CAPACITY + 3) as u32, random.once_in(3));
+    let count = if halves { rows / 2 } else { rows };
     let trust = |random: &mut Random| (!random.once_in(4)).then(|| random.within(0, 2_000) as i32 - 1_000);
     let facts: Vec<_> = (1..=count).map(|object| ([3, 1_048_575, 1_000 * object], trust(random))).collect();
-    let query = random.pick(&["S", "5f S", "30 00 S", "60 0007cf S", "60 3e87d0 5a S", "10 S N", "20 70 N S"]);
+    let listed = random.pick(&["S", "5f S", "30 00 S", "60 0007cf S", "60 3e87d0 5a S", "10 S N", "20 70 N S"]);
+    let query = if halves { "10 01 100000 0fffff 100001 01 100002 0fffff 100000" } else { listed };
     (tables::facts(&facts), vectors::query(query))
 }
 
@@ -196,7 +199,8 @@ impl Kinds {
         self.of_files(files, run);
         match run {
             Run::Refused(refused) => self.add(format!("refused {}", refused.number), true),
-            Run::Answered { rows, .. } => {
+            Run::Answered { rows, pairs, .. } => {
+                self.add("more than 65,535 pairs", *pairs > 65_535);
                 self.add(if rows.is_empty() { "answered without rows" } else { "answered with rows" }, true);
                 self.of_rows(rows);
             }
@@ -205,7 +209,7 @@ impl Kinds {
 
     /// Prints how often each kind came, and counts a case for each: it came often enough.
     fn enough(&self, report: &mut Report) {
-        let answers = ["answered with rows", "answered without rows"].map(str::to_string);
+        let answers = ["answered with rows", "answered without rows", "more than 65,535 pairs"].map(str::to_string);
         let refusals = (1..=8).map(|number| format!("refused {number}"));
         let others = FILES.iter().chain(&ROWS).map(|kind| kind.to_string());
         for kind in answers.into_iter().chain(refusals).chain(others) {
@@ -253,6 +257,7 @@ fn run() -> i32 {
     known_texts::facts_limit(&program, &mut report);
     known_texts::query_limit(&program, &mut report);
     known_texts::row_limit(&program, &mut report);
+    known_texts::most_pairs(&program, &mut report);
     known_texts::longest(&program, &mut report);
     report.part("texts by hand");
     deepest(&program, &mut report);
