@@ -1,8 +1,10 @@
-# For scripts that link the archive: sourced in the repository's top folder, with `name` set to the script's name.
-# RANDWYLER_ARCHIVE=FILE tests another archive with the same calls in the place of ours.
+# For scripts that link the archive or run the program `strikes`: sourced in the repository's top folder, with `name` set to the
+# script's name. RANDWYLER_ARCHIVE=FILE tests another archive with the same calls in the place of ours, RANDWYLER_STRIKES=FILE
+# another program.
 
 passed=0
 failed=0
+archive= # none is built yet
 
 say() { printf '%s: %s\n' "$name" "$*"; }
 
@@ -37,6 +39,19 @@ archive_or_finish() {
     build_archive || { fail "the archive cannot be built"; finish; }
 }
 
+# Builds the program `strikes` and sets `strikes` to its path.
+build_strikes() {
+    if [ -n "${RANDWYLER_STRIKES:-}" ]; then
+        strikes=$RANDWYLER_STRIKES
+        say "takes the program $strikes (RANDWYLER_STRIKES)"
+    else
+        strikes=target/bin/strikes
+        say "building $strikes"
+        rt check strikes || return 1
+    fi
+    [ -x "$strikes" ]
+}
+
 # compile_c OUTPUT SOURCE...: a C program with the archive. A warning is an error.
 compile_c() {
     mkdir -p "$(dirname "$1")"
@@ -48,14 +63,14 @@ compile_display() {
     compile_c "$1" display/display.c display/tree.c
 }
 
-# run_program SOURCE [COMMAND...]: compiles a Rust test program with the archive, runs it (by a command, if there is one) and
-# adds the counts of its last line. Products stand in target/tests.
+# run_program SOURCE [COMMAND...]: compiles a Rust test program, with the archive if `archive` is set, runs it (by a command, if
+# there is one) and adds the counts of its last line. Products stand in target/tests.
 run_program() {
     local source=$1 program last status=0
     program=target/tests/$(basename "$source" .rs)
     mkdir -p target/tests
     # Modules are shared by the programs, and none has to use all of one.
-    rustc -O --edition 2021 -D warnings -A dead_code -C link-arg="$archive" -o "$program" "$source" || {
+    rustc -O --edition 2021 -D warnings -A dead_code ${archive:+-C "link-arg=$archive"} -o "$program" "$source" || {
         fail "$source does not compile"
         return
     }

@@ -14,12 +14,17 @@ pub fn about(limit: usize) -> Vec<AtLimit> {
     [limit - 1, limit, limit + 1].into_iter().flat_map(|length| of_length(length, limit)).collect()
 }
 
+/// A sound query of a length: unions with the empty set; the first head is a project trust where the length is even.
+pub fn unions(length: usize) -> Vec<u8> {
+    let mut query = vec![0x53; 1 - length % 2];
+    query.extend([0x30, 0x00].repeat((length - 1) / 2));
+    query.push(0x00);
+    assert_eq!(query.len(), length);
+    query
+}
+
 fn of_length(length: usize, limit: usize) -> [AtLimit; 3] {
-    // Unions with the empty set; the first head is a project trust where the length is even.
-    let mut sound = vec![0x53; 1 - length % 2];
-    sound.extend([0x30, 0x00].repeat((length - 1) / 2));
-    sound.push(0x00);
-    assert_eq!(sound.len(), length);
+    let sound = unions(length);
     let mut faulty = sound.clone();
     faulty[length - 1] = 0x70;
     let mut clash = sound.clone();
