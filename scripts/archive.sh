@@ -21,6 +21,24 @@ finish() {
     exit 0
 }
 
+# prove COMMAND CRATE: rt with this command, which proves a crate and all that it needs first, counted.
+prove() {
+    local count
+    count=$(awk -F': *' -v names="$2" '{ needs[$1] = $2 }
+        END {
+            queued = split(names, queue, " ")
+            for (i = 1; i <= queued; i++) {
+                if (!(queue[i] in needs) || queue[i] in seen) continue
+                seen[queue[i]]
+                found++
+                added = split(needs[queue[i]], more, " ")
+                for (j = 1; j <= added; j++) queue[++queued] = more[j]
+            }
+            print found
+        }' crates.txt)
+    rt "$1" "$2" 2>&1 | scripts/progress "$count"
+}
+
 # Builds the archive and sets `archive` to its path.
 build_archive() {
     if [ -n "${RANDWYLER_ARCHIVE:-}" ]; then
@@ -29,7 +47,7 @@ build_archive() {
     else
         archive=target/staticlib/librandwyler.a
         say "building $archive"
-        rt staticlib randwyler || return 1
+        prove staticlib randwyler || return 1
     fi
     [ -f "$archive" ]
 }
@@ -47,7 +65,7 @@ build_strikes() {
     else
         strikes=target/bin/strikes
         say "building $strikes"
-        rt check strikes || return 1
+        prove check strikes || return 1
     fi
     [ -x "$strikes" ]
 }

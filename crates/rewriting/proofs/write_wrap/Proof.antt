@@ -7,7 +7,7 @@ use Rattle.rewriting.proofs.PushParts.{wrap-wrote}
 use borrow.Author.Needs.{needs}
 use Rattle.rewriting.proofs.write_wrap.Statement.{statement}
 use Rattle.rewriting.proofs.write_wrap.Tie as tie
-use Rattle.query.proofs.write_head.Reads as write-head-reads
+use Rattle.encoding.proofs.write_head.Reads as write-head-reads
 
 enum-told : tie.Need-enum-told
 enum-told c = search needs
