@@ -1,5 +1,6 @@
-# For scripts that link the archive: sourced in the repository's top folder, with `name` set to the script's name.
-# RANDWYLER_ARCHIVE=FILE tests another archive with the same calls in the place of ours.
+# For scripts that link the archive or run the program `strikes`: sourced in the repository's top folder, with `name` set to the
+# script's name. RANDWYLER_ARCHIVE=FILE tests another archive with the same calls in the place of ours, RANDWYLER_STRIKES=FILE
+# another program.
 
 passed=0
 failed=0
@@ -37,6 +38,19 @@ archive_or_finish() {
     build_archive || { fail "the archive cannot be built"; finish; }
 }
 
+# Builds the program `strikes` and sets `strikes` to its path.
+build_strikes() {
+    if [ -n "${RANDWYLER_STRIKES:-}" ]; then
+        strikes=$RANDWYLER_STRIKES
+        say "takes the program $strikes (RANDWYLER_STRIKES)"
+    else
+        strikes=target/bin/strikes
+        say "building $strikes"
+        rt check strikes || return 1
+    fi
+    [ -x "$strikes" ]
+}
+
 # compile_c OUTPUT SOURCE...: a C program with the archive. A warning is an error.
 compile_c() {
     mkdir -p "$(dirname "$1")"
@@ -51,7 +65,7 @@ compile_display() {
 # run_program SOURCE [COMMAND...]: compiles a Rust test program with the archive, runs it (by a command, if there is one) and
 # adds the counts of its last line. Products stand in target/tests.
 run_program() {
-    local source=$1 program last status=0
+    local source=$1 program
     program=target/tests/$(basename "$source" .rs)
     mkdir -p target/tests
     # Modules are shared by the programs, and none has to use all of one.
@@ -59,14 +73,20 @@ run_program() {
         fail "$source does not compile"
         return
     }
-    say running "${@:2}" "$program"
-    "${@:2}" "$program" 2>&1 | tee "$program.log" || status=$?
-    last=$(tail -n 1 "$program.log")
+    run_counted "$program.log" "${@:2}" "$program"
+}
+
+# run_counted LOG COMMAND...: runs a test program and adds the counts of its last line.
+run_counted() {
+    local log=$1 last status=0
+    say running "${@:2}"
+    "${@:2}" 2>&1 | tee "$log" || status=$?
+    last=$(tail -n 1 "$log")
     if [[ ! $last =~ ^([0-9]+)\ passed,\ ([0-9]+)\ failed$ ]]; then
-        fail "$program ended with status $status and without its counts"
+        fail "${*:2} ended with status $status and without its counts"
         return
     fi
     passed=$((passed + BASH_REMATCH[1]))
     failed=$((failed + BASH_REMATCH[2]))
-    if [ "$status" -ne 0 ] && [ "${BASH_REMATCH[2]}" -eq 0 ]; then fail "$program ended with status $status"; fi
+    if [ "$status" -ne 0 ] && [ "${BASH_REMATCH[2]}" -eq 0 ]; then fail "${*:2} ended with status $status"; fi
 }

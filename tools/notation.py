@@ -150,7 +150,7 @@ def read_node(line):
     if line.is_value():
         raise fault(place, "a pattern has to stand below a 'pattern set'")
     if first not in FIRST_WORDS:
-        near = difflib.get_close_matches(first.lower(), FIRST_WORDS, 1)
+        near = difflib.get_close_matches(first.lower(), FIRST_WORDS, 1, 0.7)
         raise fault(place, f"unknown word '{shown(first)}'" + (f": did you mean '{near[0]}'?" if near else ""))
     line.take()
     most = None
