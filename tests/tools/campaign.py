@@ -69,9 +69,15 @@ def naive_push(report):
     report.equal("rows that it adds", (len(surplus), surplus[0]), (12, "660 ?0=1002 ?1=3010"))
 
 
-def quoted(report):
-    """The README's rows and their numbers."""
+def quoted(report, folder, strikes):
+    """The README's commands, its rows and their numbers."""
     text = (CAMPAIGN / "README.md").read_text()
+    first, *commands = re.findall("(?m)^    (.*)$", text)
+    report.equal("the README's folder", (first, commands.pop()), ("cd target", "bin/strikes"))
+    script = "\n".join(commands).replace("../", f"{TOP}/") + f"\n{strikes}"
+    status, said, messages = run("bash", "-e", "-c", script, cwd=folder)
+    report.equal("the README's commands", (status, messages), (0, ""))
+    report.equal("what they print", said.endswith("bytes\n" + rows_file("2-unsampled")), True)
     sections = re.split(r"(?m)^### \d\. .*\(`(.*)`\)$", text)[1:]
     names, bodies = sections[0::2], sections[1::2]
     report.equal("sections of the README", names, [name for name in QUESTIONS if name != "5-late-naive"])
@@ -91,8 +97,8 @@ def main():
         made_again(report, folder)
         answered(report, folder, display, strikes)
         all_facts(report, folder, strikes)
+        quoted(report, folder, strikes)
     naive_push(report)
-    quoted(report)
     report.finish()
 
 
