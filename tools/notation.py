@@ -11,6 +11,7 @@ from values import TERMS, TRUSTS, VARIABLES
 STEP = 2
 # What binds tighter stands higher.
 BINDS = {"or": 1, "and": 2, "not": 3}
+VARIABLE_NAMES = [f"?{variable}" for variable in VARIABLES]
 FIRST_WORDS = ("pattern", "empty", "join", "left", "union", "filter", "project", "ensure")
 
 
@@ -58,10 +59,9 @@ class Line:
         return self.next is not None and re.match(r"\?|-?[0-9]", self.next) is not None
 
     def variable(self):
-        names = [f"?{variable}" for variable in VARIABLES]
-        if self.next not in names:
-            raise self.unexpected(f"a variable, {names[0]} to {names[-1]}")
-        return names.index(self.take())
+        if self.next not in VARIABLE_NAMES:
+            raise self.unexpected(f"a variable, {VARIABLE_NAMES[0]} to {VARIABLE_NAMES[-1]}")
+        return VARIABLE_NAMES.index(self.take())
 
     def term(self):
         return number(self.place, "term", self.take(), TERMS)
@@ -99,19 +99,29 @@ def read_atom(line):
     return Condition("is-term", variable, line.term())
 
 
+def in_prefix_order(tree):
+    """The parts of a tree: a condition, then its operands."""
+    parts, rest = [], [tree]
+    while rest:
+        part, *operands = rest.pop()
+        parts.append(part)
+        rest += reversed(operands)
+    return parts
+
+
 def read_condition(line):
     """A condition to the end of the line, in prefix order. Not binds before and, and before or; both group from the left."""
-    operands, operators = [], []  # operators with their places, and open parentheses
+    operands, operators = [], []  # trees; operators with their places, and open parentheses
 
     def apply():
         kind = operators.pop()[1]
         parts = [operands.pop() for _ in range(CONDITIONS[kind])]
-        operands.append(sum(reversed(parts), [Condition(kind)]))
+        operands.append((Condition(kind), *reversed(parts)))
 
     while True:
         while line.next in ("not", "("):
             operators.append((line.place, line.take()))
-        operands.append([read_atom(line)])
+        operands.append((read_atom(line),))
         while line.next == ")":
             while operators and operators[-1][1] != "(":
                 apply()
@@ -130,7 +140,7 @@ def read_condition(line):
         if operators[-1][1] == "(":
             raise fault(operators[-1][0], "this '(' is not closed")
         apply()
-    return operands[0]
+    return in_prefix_order(operands[0])
 
 
 def read_pattern(line):
@@ -182,7 +192,7 @@ def read_node(line):
 # ---- Reading a query
 
 
-@dataclass
+@dataclass(eq=False)
 class Open:
     """A node to which lines further in may belong."""
 
