@@ -53,6 +53,27 @@ LOOSE_CONDITIONS = [  # by hand: what parentheses that are left out mean
     ("not not ?0=5 or ((true))", "(not not ?0 = 5 or true)"),
 ]
 
+EDGES = [  # queries by hand, each a step beyond what is sound, and the refusal
+    ("70 00", (6, 0)),
+    ("11 00 00", (6, 0)),
+    ("40 80 00", (6, 1)),
+    ("40 71 00", (6, 1)),
+    ("40 10 10 00", (6, 1)),
+    ("40 30 10 00", (6, 1)),
+    ("40 20 00 00 00 00", (6, 1)),
+    ("40 20 10 00 01 00", (6, 1)),
+    ("40 40 12", (6, 2)),
+    ("60 7D 10 00 00", (6, 0)),
+    ("60 00 07 D1 00", (6, 0)),
+    ("60 00 07", (6, 0)),
+    ("01 10 00 10 00 00 01 00 00 01", (6, 1)),
+    ("01 00 00 00 00 00 01 00 00 01", (6, 1)),
+    ("01 00 00 01 20 00 01 00 00 01", (6, 1)),
+    ("02 00 00 01 00 00 01 00 00 01 00 00 01", (6, 10)),
+    ("10 00", (6, 2)),
+    ("00 00", (6, 1)),
+]
+
 
 def by_hand(report):
     header = "subject,predicate,object,trust\n"
@@ -193,6 +214,10 @@ def refusals(report, source, display, folder):
             else:
                 report.equal(f"damaged query {data.hex()}", refused(read_query, data), expected)
         seen[expected[0] if expected else 0] += 1
+    for text, expected in EDGES:
+        data = bytes.fromhex(text)
+        report.equal(f"check of {text}", Shown(display, folder, b"", data).refusal, expected)
+        report.equal(text, refused(read_query, data), expected)
     for what, data, expected in [("65,536 records", bytes(9 * 65_536), (2, 0)), ("too long", bytes(5_121), (5, 0))]:
         table, query = (data, b"\0") if expected[0] == 2 else (b"", data)
         report.equal(f"check of {what}", Shown(display, folder, table, query).refusal, expected)
