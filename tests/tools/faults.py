@@ -173,14 +173,14 @@ def bytes_with_faults(report, folder):
 def files(report, folder):
     """Files that cannot be used, and usage."""
     data = (HEADER + "1,10,11,900\n").encode()
-    (folder.path / "link").symlink_to("out")
-    there = ["in", "link", "out"]
+    os.mkfifo(folder.path / "pipe")
+    there = ["in", "out", "pipe"]
     for arguments, message in [
         (["absent", "out"], "tools/facts: cannot read absent: No such file or directory\n"),
         ([".", "out"], "tools/facts: cannot read .: Is a directory\n"),
         (["in", "absent/out"], "tools/facts: cannot write absent/out: No such file or directory\n"),
         (["in", "."], "tools/facts: cannot write .: Not a regular file\n"),
-        (["in", "/dev/null"], "tools/facts: cannot write /dev/null: Not a regular file\n"),
+        (["in", "pipe"], "tools/facts: cannot write pipe: Not a regular file\n"),
     ]:
         report.equal(f"tools/facts {arguments}", folder.run("facts", data, *arguments), (2, "", message, True, there))
     for arguments, reason in (["in"], "OUTPUT is missing"), (["in", "in"], "INPUT and OUTPUT are the same file"):
@@ -188,7 +188,8 @@ def files(report, folder):
         message = messages.splitlines()[-1]
         expected = (2, "", f"tools/facts: error: {reason}", True, there)
         report.equal(f"tools/facts {arguments}", (status, said, message, same, now), expected)
-    (folder.path / "link").unlink()
+    report.equal("the pipe is still one", (folder.path / "pipe").is_fifo(), True)
+    (folder.path / "pipe").unlink()
     # A write that fails half-way leaves the older output, and nothing else.
     (folder.path / "in").write_bytes(data)
     got = run("bash", "-c", 'ulimit -f 0; exec "$0" in out', TOP / "tools" / "facts", cwd=folder.path)
