@@ -84,7 +84,7 @@ compile_display() {
 # run_program SOURCE [COMMAND...]: compiles a Rust test program, with the archive if `archive` is set, runs it (by a command, if
 # there is one) and adds the counts of its last line. Products stand in target/tests.
 run_program() {
-    local source=$1 program last status=0
+    local source=$1 program
     program=target/tests/$(basename "$source" .rs)
     mkdir -p target/tests
     # Modules are shared by the programs, and none has to use all of one.
@@ -92,14 +92,20 @@ run_program() {
         fail "$source does not compile"
         return
     }
-    say running "${@:2}" "$program"
-    "${@:2}" "$program" 2>&1 | tee "$program.log" || status=$?
-    last=$(tail -n 1 "$program.log")
+    run_counted "$program.log" "${@:2}" "$program"
+}
+
+# run_counted LOG COMMAND...: runs a test program and adds the counts of its last line.
+run_counted() {
+    local log=$1 last status=0
+    say running "${@:2}"
+    "${@:2}" 2>&1 | tee "$log" || status=$?
+    last=$(tail -n 1 "$log")
     if [[ ! $last =~ ^([0-9]+)\ passed,\ ([0-9]+)\ failed$ ]]; then
-        fail "$program ended with status $status and without its counts"
+        fail "${*:2} ended with status $status and without its counts"
         return
     fi
     passed=$((passed + BASH_REMATCH[1]))
     failed=$((failed + BASH_REMATCH[2]))
-    if [ "$status" -ne 0 ] && [ "${BASH_REMATCH[2]}" -eq 0 ]; then fail "$program ended with status $status"; fi
+    if [ "$status" -ne 0 ] && [ "${BASH_REMATCH[2]}" -eq 0 ]; then fail "${*:2} ended with status $status"; fi
 }

@@ -1,0 +1,105 @@
+"""campaign.py DISPLAY STRIKES: the campaign's facts and rows are those of its scripts, and `strikes` prints the rows for each question,
+from files that the tools make; its README quotes them. The last line is 'N passed, M failed'."""
+import csv
+import pathlib
+import re
+import sys
+import tempfile
+
+from report import TOP, Report, run
+
+CAMPAIGN = TOP / "examples" / "campaign"
+QUESTIONS = ["1-graded", "2-unsampled", "3-differing", "4-by-pan", "5-late", "5-late-naive"]
+MOST_FACTS, MOST_ROWS = 65_529, 963
+
+
+def rows_file(name):
+    return (CAMPAIGN / f"{name}.rows").read_text()
+
+
+def made_again(report, folder):
+    """The scripts make the files that stand there."""
+    report.equal("make", run(CAMPAIGN / "make"), (0, (CAMPAIGN / "facts.csv").read_text(), ""))
+    status, _, messages = run(CAMPAIGN / "answers", folder)
+    report.equal("answers", (status, messages), (0, ""))
+    for name in QUESTIONS:
+        report.equal(f"{name}.rows", (folder / f"{name}.rows").read_text(), rows_file(name))
+    there = sorted(path.stem for path in CAMPAIGN.glob("*.query"))
+    report.equal("the questions", (there, sorted(path.stem for path in CAMPAIGN.glob("*.rows"))), (QUESTIONS, QUESTIONS))
+
+
+def make_query(report, folder, text):
+    """query.bin from a file, or from a text."""
+    source = text if isinstance(text, pathlib.Path) else "-"
+    data = None if source == text else text.encode()
+    report.equal(f"tools/query {source}", run(TOP / "tools" / "query", source, folder / "query.bin", input=data)[0::2], (0, ""))
+
+
+def answered(report, folder, display, strikes):
+    table = folder / "facts.bin"
+    report.equal("tools/facts", run(TOP / "tools" / "facts", CAMPAIGN / "facts.csv", table)[0::2], (0, ""))
+    report.equal("facts.bin is short enough", 0 < table.stat().st_size <= MOST_FACTS, True)
+    for name in QUESTIONS:
+        make_query(report, folder, CAMPAIGN / f"{name}.query")
+        status, shown, _ = run(display, table, folder / "query.bin")
+        report.equal(f"check of {name}", (status, shown.startswith("sound: ")), (0, True))
+        expected = rows_file(name)
+        report.equal(f"strikes on {name}", run(strikes, cwd=folder), (0, expected, ""))
+        report.equal(f"{name} has rows", 2 <= len(expected.splitlines()) <= 1 + MOST_ROWS, True)
+        # The rewriting, copied from the display, lists the same.
+        make_query(report, folder, re.split(r"(?m)^rewriting, \d+ bytes:\n", shown)[1])
+        rewritten = run(strikes, cwd=folder)[1]
+        report.equal(f"strikes on the rewriting of {name}", rewritten.splitlines()[1:], expected.splitlines()[1:])
+
+
+def all_facts(report, folder, strikes):
+    """Every record comes back from strikes as it stands in the CSV."""
+    make_query(report, folder, "project trust ?3\n  pattern set\n    ?0 ?1 ?2\n")
+    lines = (line for line in (CAMPAIGN / "facts.csv").read_text().splitlines() if line and line[0] != "#")
+    facts = [[*map(int, fact[:3]), fact[3]] for fact in list(csv.reader(lines))[1:]]
+    expected = [f"{trust} ?0={s} ?1={p} ?2={o} ?3=t{trust}" for s, p, o, trust in sorted(facts, key=lambda fact: fact[:3])]
+    report.equal("all facts", run(strikes, cwd=folder)[1].splitlines()[1:], expected)
+
+
+def naive_push(report):
+    """The floor in both operands of a left join lists rows that the question does not have, and the README says which."""
+    right, naive = (rows_file(name).splitlines()[1:] for name in ("5-late", "5-late-naive"))
+    surplus = [row for row in naive if row not in right]
+    report.equal("rows that the naive push loses", [row for row in right if row not in naive], [])
+    report.equal("rows that it adds", (len(surplus), surplus[0]), (12, "660 ?0=1002 ?1=3010"))
+
+
+def quoted(report, folder, strikes):
+    """The README's commands, its rows and their numbers."""
+    text = (CAMPAIGN / "README.md").read_text()
+    first, *commands = re.findall("(?m)^    (.*)$", text)
+    report.equal("the README's folder", (first, commands.pop()), ("cd target", "bin/strikes"))
+    script = "\n".join(commands).replace("../", f"{TOP}/") + f"\n{strikes}"
+    status, said, messages = run("bash", "-e", "-c", script, cwd=folder)
+    report.equal("the README's commands", (status, messages), (0, ""))
+    report.equal("what they print", said.endswith("bytes\n" + rows_file("2-unsampled")), True)
+    sections = re.split(r"(?m)^### \d\. .*\(`(.*)`\)$", text)[1:]
+    names, bodies = sections[0::2], sections[1::2]
+    report.equal("sections of the README", names, [name for name in QUESTIONS if name != "5-late-naive"])
+    for name, body in zip(names, bodies):
+        rows = rows_file(name).splitlines()[1:]
+        report.equal(f"how many rows the README has of {name}", int(re.search(r"(\d+) rows", body)[1]), len(rows))
+        block = re.findall(r"(?s)```\n(.*?)```", body)[0].splitlines()
+        report.equal(f"what the README quotes of {name}", block, rows[: len(block)])
+    report.equal("all rows of 2-unsampled", len(re.findall(r"(?s)```\n(.*?)```", bodies[1])[0].splitlines()), 8)
+    report.equal("the surplus row", re.findall(r"(?s)```\n(.*?)```", bodies[4])[1], "660 ?0=1002 ?1=3010\n")
+
+
+def main():
+    display, strikes, report = pathlib.Path(sys.argv[1]).resolve(), pathlib.Path(sys.argv[2]).resolve(), Report()
+    with tempfile.TemporaryDirectory() as name:
+        folder = pathlib.Path(name)
+        made_again(report, folder)
+        answered(report, folder, display, strikes)
+        all_facts(report, folder, strikes)
+        quoted(report, folder, strikes)
+    naive_push(report)
+    report.finish()
+
+
+main()
