@@ -26,13 +26,13 @@ static int print_refusal(uint32_t number, uint64_t place)
 {
     static const char *const advice[] = {
         [1] = "the table ends inside a record: read it again from its source",
-        [2] = "the table has too many records: split it",
+        [2] = "the table has too many records: choose fewer for it",
         [3] = "this record has a value out of range: correct it or leave it out",
         [4] = "this record does not rise: sort the table and leave repetitions out",
         [5] = "the query is too long for this call: shorten it",
         [6] = "the query has a fault at this byte: correct its writer",
         [7] = "the variable of this project trust is used elsewhere: choose another one",
-        [8] = "the query needs more rows than any row space has: bound or split it",
+        [8] = "the query needs more rows than any row space has: narrow it",
         [9] = "the output is too short: lend so many bytes",
     };
     printf("refused %" PRIu32 " at %" PRIu64 ": %s\n", number, place, number < 10 ? advice[number] : "unknown number");

@@ -28,13 +28,13 @@ const UNKNOWN_TRUST: u32 = 2_001;
 fn refusal(number: u32, place: u64) -> String {
     let advice = match number {
         1 => "the table ends inside a record: read it again from its source",
-        2 => "the table has too many records: split it",
+        2 => "the table has too many records: choose fewer for it",
         3 => "this record has a value out of range: correct it or leave it out",
         4 => "this record does not rise: sort the table and leave repetitions out",
         5 => "the query is too long for this call: shorten it",
         6 => "the query has a fault at this byte: correct its writer",
         7 => "the variable of this project trust is used elsewhere: choose another one",
-        8 => "the query needs more rows than any row space has: bound or split it",
+        8 => "the query needs more rows than any row space has: narrow it",
         9 => "the output is too short: lend so many bytes",
         _ => "unknown number",
     };
