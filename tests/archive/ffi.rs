@@ -1,62 +1,10 @@
 //! The calls of the archive, as functions on slices.
 
+#[path = "../../include/randwyler.rs"]
+mod randwyler;
+
 use crate::paper::{Ceiling, Evaluated, Refusal, Rewritten, Tally};
-
-/// struct randwyler_refusal
-#[repr(C)]
-struct CRefusal {
-    number: u32,
-    place: u64,
-}
-
-/// struct randwyler_rewritten
-#[repr(C)]
-struct CRewritten {
-    number: u32,
-    place: u64,
-    length: u64,
-}
-
-/// struct randwyler_ceiling
-#[repr(C)]
-struct CCeiling {
-    number: u32,
-    place: u64,
-    ceiling: u32,
-}
-
-/// struct randwyler_tally
-#[repr(C)]
-struct CTally {
-    answered: u32,
-    refused: u32,
-}
-
-/// struct randwyler_evaluated
-#[repr(C)]
-struct CEvaluated {
-    number: u32,
-    place: u64,
-    rows: u32,
-    peak: u32,
-    pairs: u64,
-    tally: CTally,
-}
-
-extern "C" {
-    fn randwyler_check(table: *const u8, table_len: usize, query: *const u8, query_len: usize) -> CRefusal;
-    fn randwyler_rewrite(query: *const u8, query_len: usize, output: *mut u8, output_len: usize) -> CRewritten;
-    fn randwyler_ceiling_of(table: *const u8, table_len: usize, query: *const u8, query_len: usize) -> CCeiling;
-    fn randwyler_evaluate(
-        table: *const u8,
-        table_len: usize,
-        query: *const u8,
-        query_len: usize,
-        space: *mut u32,
-        space_len: usize,
-        tally: CTally,
-    ) -> CEvaluated;
-}
+use randwyler::raw::{randwyler_ceiling_of, randwyler_check, randwyler_evaluate, randwyler_rewrite};
 
 /// The pointer and length of a slice; none is NULL with length 0.
 fn parts(slice: Option<&[u8]>) -> (*const u8, usize) {
@@ -116,9 +64,9 @@ unsafe fn evaluate_at(
     Tally { answered, refused }: Tally,
 ) -> Evaluated {
     let ((table, table_len), (query, query_len)) = (parts(table), parts(query));
-    let tally = CTally { answered, refused };
+    let tally = randwyler::Tally { answered, refused };
     let answer = randwyler_evaluate(table, table_len, query, query_len, space, space_len, tally);
-    let CTally { answered, refused } = answer.tally;
+    let randwyler::Tally { answered, refused } = answer.tally;
     Evaluated {
         refusal: Refusal { number: answer.number, place: answer.place },
         rows: answer.rows,
