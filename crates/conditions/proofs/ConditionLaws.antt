@@ -23,7 +23,7 @@ use Rattle.query.specs.declared.ConditionHead.the-variants as C
 use Rattle.query.specs.Answers.{faultIn, faultRefusal}
 use Rattle.query.specs.Parts.{mapRead, follow, pairHead, termHead, conditionHeadRead, conditionOperands}
 use Rattle.query.specs.Variables.{IsGot}
-use Rattle.query.proofs.ReadLaws.{by-kind}
+use Rattle.query.proofs.ReadLaws.{by-kind, made-fault, made-by}
 use Rattle.conditions.specs.Truths.{truthIn, ConditionSound, foundCondition, conditionOf, HeadFormed, headTruth, Judges}
 use Rattle.conditions.specs.declared.Truth.{Truth}
 use Rattle.conditions.specs.declared.Judged.the-variants as J
@@ -144,16 +144,6 @@ module _ (s : List ℕ) where
 pub fault-place : {A : Type 0} {r : Read A} {n p : ℕ} → r ≡ fault p → n ≡ faultIn r → r ≡ fault n
 fault-place e d = e ∙ ap fault (sym (d ∙ ap faultIn e))
 
--- what was found, by what it was made into
-module _ {A B : Type 0} (f : A → B) where
-  fault-made : (r : Read A) (p : ℕ) → mapRead f r ≡ fault p → r ≡ fault p
-  fault-made (got a n) p e = cc
-  fault-made (fault q) p e = cc
-
-  got-made : (P : Read A → Type 0) (r : Read A) (b : B) (n : ℕ) → mapRead f r ≡ got b n → ((a : A) → f a ≡ b → P (got a n)) → P r
-  got-made P (got a m) b n e k = let h : m ≡ n = cc in rw h (k a (cc))
-  got-made P (fault q) b n e k = let z : _≡_ {A = ℕ} 0 1 = cc in absurd (omega arith)
-
 module _ (s : List ℕ) (cs : List Cell) where
   abbrev T : Condition → D.Truth
   T = truthOn cs
@@ -165,20 +155,20 @@ module _ (s : List ℕ) (cs : List Cell) where
   one-made : (f : Condition → Condition) (g : D.Truth → D.Truth) → ((c : Condition) → T (f c) ≡ g (T c))
       → (own k : ℕ) (t : D.Truth) → judgedAt own ≡ got t k → mapRead T (oneAt s own f) ≡ got (g t) (own + k)
   one-made f g h own k t e =
-      got-made T (λ r. mapRead T (andThen own r (λ c next. got (f c) next)) ≡ got (g t) (own + k)) (readCondition (drop own s)) t k e
+      made-by T (λ r. mapRead T (andThen own r (λ c next. got (f c) next)) ≡ got (g t) (own + k)) (readCondition (drop own s)) t k e
       (λ c d. rw (h c, d))
 
   second-made : (f : Condition → Condition → Condition) (own k p : ℕ) (t : D.Truth) → judgedAt own ≡ got t k → judgedAt (own + k) ≡ fault p
       → twoAt s own f ≡ fault (own + k + p)
   second-made f own k p t e d =
-      got-made T (λ r. andThen own r (λ c at. oneAt s at (f c)) ≡ fault (own + k + p)) (readCondition (drop own s)) t k e
-      (λ c _. rw (fault-made T (readCondition (drop (own + k) s)) p d))
+      made-by T (λ r. andThen own r (λ c at. oneAt s at (f c)) ≡ fault (own + k + p)) (readCondition (drop own s)) t k e
+      (λ c _. rw (made-fault T (readCondition (drop (own + k) s)) p d))
 
   two-made : (f : Condition → Condition → Condition) (g : D.Truth → D.Truth → D.Truth) → ((c d : Condition) → T (f c d) ≡ g (T c) (T d))
       → (own k m : ℕ) (t u : D.Truth) → judgedAt own ≡ got t k → judgedAt (own + k) ≡ got u m
       → mapRead T (twoAt s own f) ≡ got (g t u) (own + k + m)
   two-made f g h own k m t u e d =
-      got-made T (λ r. mapRead T (andThen own r (λ c at. oneAt s at (f c))) ≡ got (g t u) (own + k + m)) (readCondition (drop own s)) t k e
+      made-by T (λ r. mapRead T (andThen own r (λ c at. oneAt s at (f c))) ≡ got (g t u) (own + k + m)) (readCondition (drop own s)) t k e
       (λ c b. one-made (f c) (g t) (λ x. h c x ∙ rw b) (own + k) m u d)
 
   module _ (own : ℕ) where
@@ -202,9 +192,9 @@ module _ (s : List ℕ) (cs : List Cell) where
     first-fault (C.Same v w) p e n f = absurd (omega arith)
     first-fault (C.IsTerm v a) p e n f = absurd (omega arith)
     first-fault (C.Less v w) p e n f = absurd (omega arith)
-    first-fault C.Not p e n f = tree-at s e ∙ rw (fault-made T (readCondition (drop own s)) p f)
-    first-fault C.And p e n f = tree-at s e ∙ rw (fault-made T (readCondition (drop own s)) p f)
-    first-fault C.Or p e n f = tree-at s e ∙ rw (fault-made T (readCondition (drop own s)) p f)
+    first-fault C.Not p e n f = tree-at s e ∙ rw (made-fault T (readCondition (drop own s)) p f)
+    first-fault C.And p e n f = tree-at s e ∙ rw (made-fault T (readCondition (drop own s)) p f)
+    first-fault C.Or p e n f = tree-at s e ∙ rw (made-fault T (readCondition (drop own s)) p f)
     first-fault C.True p e n f = absurd (omega arith)
 
     -- one operand
@@ -251,7 +241,7 @@ module _ (s : List ℕ) (cs : List Cell) where
   judges-truth t u n e d =
       record {
         found = rw e (sym d);
-        refusal = got-made T (λ r. noRefusal ≡ faultRefusal r) (readCondition s) u n d (λ _ _. refl);
+        refusal = made-by T (λ r. noRefusal ≡ faultRefusal r) (readCondition s) u n d (λ _ _. refl);
       }
 
   pub judges-refused : (p : ℕ) → readCondition s ≡ fault p → Judges s cs (J.Refused 6 p)
@@ -263,13 +253,13 @@ module _ {s : List ℕ} {cs : List Cell} where
   -- the part starts with a condition, whose last byte is before the next place
   pub judged-read : {t : Truth} {n : ℕ} → Judges s cs (J.Truth t n) → readCondition s ≡ got (conditionOf s) n
   judged-read {t} {n} j =
-      got-made (truthOn cs) (λ r. r ≡ got (foundCondition r) n) (readCondition s) (truthIn t) n (sym (j .found)) (λ _ _. refl)
+      made-by (truthOn cs) (λ r. r ≡ got (foundCondition r) n) (readCondition s) (truthIn t) n (sym (j .found)) (λ _ _. refl)
 
   -- the truth is the condition's
   pub judged-truth : {t : Truth} {n : ℕ} → Judges s cs (J.Truth t n) → truthIn t ≡ truthOn cs (conditionOf s)
   judged-truth {t} {n} j =
-      got-made (truthOn cs) (λ r. truthIn t ≡ truthOn cs (foundCondition r)) (readCondition s) (truthIn t) n (sym (j .found)) (λ _ e. sym e)
+      made-by (truthOn cs) (λ r. truthIn t ≡ truthOn cs (foundCondition r)) (readCondition s) (truthIn t) n (sym (j .found)) (λ _ e. sym e)
 
   -- a condition is not refused
   pub judged-sound : {n p : ℕ} → ConditionSound s → Judges s cs (J.Refused n p) → ⊥
-  judged-sound {n} {p} h j = subst IsGot (fault-made (truthOn cs) (readCondition s) p (sym (j .found))) h
+  judged-sound {n} {p} h j = subst IsGot (made-fault (truthOn cs) (readCondition s) p (sym (j .found))) h

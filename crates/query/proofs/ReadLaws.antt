@@ -1,6 +1,6 @@
 -- Laws of places: what was found through mapRead, shift and follow; a part of a slice is what drop leaves; a number by its cases.
 -- Assumes nothing.
-use mathlib.Core.Path.{_≡_, refl, sym, ap, _∙_}
+use mathlib.Core.Path.{_≡_, refl, sym, ap, subst, _∙_}
 use mathlib.Core.Bool.{Bool, true, false, cond}
 use mathlib.Core.List.{List}
 use Prim.Native.Nat.{ℕ, zero, suc, _+_, _-_, _≤_}
@@ -22,6 +22,20 @@ on-part f s at e = sym (e ∙ ap f (part-drop s at))
 -- a fault is no find
 pub fault-not-got : {A : Type 0} {a : A} {n p : ℕ} → _≡_ {A = Read A} (fault p) (got a n) → ⊥
 fault-not-got e = let z : _≡_ {A = ℕ} 0 1 = cc in omega arith
+
+-- what was read, by what was made of it
+module _ {A B : Type 0} (f : A → B) where
+  pub made-fault : (r : Read A) (p : ℕ) → mapRead f r ≡ fault p → r ≡ fault p
+  made-fault (got a n) p e = absurd (fault-not-got (sym e))
+  made-fault (fault q) p e = let same : q ≡ p = cc in ap fault same
+
+  pub made-got : (r : Read A) (b : B) (n : ℕ) → mapRead f r ≡ got b n → (a : A) × (r ≡ got a n) × (f a ≡ b)
+  made-got (got a m) b n e = let same : m ≡ n = cc in (a, ap (got a) same, cc)
+  made-got (fault q) b n e = absurd (fault-not-got e)
+
+  -- the same for a statement about what was read
+  pub made-by : (P : Read A → Type 0) (r : Read A) (b : B) (n : ℕ) → mapRead f r ≡ got b n → ((a : A) → f a ≡ b → P (got a n)) → P r
+  made-by P r b n e k = let x = made-got r b n e in subst P (sym (x .1)) (k (x .0) (x .2))
 
 -- what follows a fault, and what follows a find, where only the place matters
 module _ {A B : Type 0} (f : A → B) where

@@ -5,7 +5,7 @@ use Prim.Native.Nat.{ℕ, _-_, _*_}
 use native.Mathlib.Omega.{arith}
 use borrow.Author.Needs.{needs}
 use Rattle.tsparql.specs.Evaluate.{rowLength}
-use Rattle.tsparql.specs.Conditions.{trueOn}
+use Rattle.tsparql.specs.Conditions.{isTrue, truthOn, trueOn}
 use Rattle.query.proofs.ReadLaws.{part-drop}
 use Rattle.rows.specs.RowWords.{rowAt}
 use Rattle.rows.proofs.CompactionLaws.{Compacted, compacted-none, compacted-more, compacted-all}
@@ -25,20 +25,23 @@ loop-holds c = compacted-none _ _ _
 mul-from : tie.Need-mul-from Inv-loop μ-loop
 mul-from c = search needs
 
-mul-true-on : tie.Need-mul-true-on Inv-loop μ-loop
-mul-true-on c = search needs
+mul-truth-on : tie.Need-mul-truth-on Inv-loop μ-loop
+mul-truth-on c = search needs
 
-sub-true-on : tie.Need-sub-true-on Inv-loop μ-loop
-sub-true-on c = search needs
+sub-truth-on : tie.Need-sub-truth-on Inv-loop μ-loop
+sub-truth-on c = search needs
 
-part-true-on-start : tie.Need-part-true-on-start Inv-loop μ-loop
-part-true-on-start c = search needs
+part-truth-on-start : tie.Need-part-truth-on-start Inv-loop μ-loop
+part-truth-on-start c = search needs
 
-part-true-on-end : tie.Need-part-true-on-end Inv-loop μ-loop
-part-true-on-end c = search needs
+part-truth-on-end : tie.Need-part-truth-on-end Inv-loop μ-loop
+part-truth-on-end c = search needs
 
-true-on-requires : tie.Need-true-on-requires Inv-loop μ-loop
-true-on-requires c κs = search needs
+truth-on-requires : tie.Need-truth-on-requires Inv-loop μ-loop
+truth-on-requires c κs = search needs
+
+is-true-requires : tie.Need-is-true-requires Inv-loop μ-loop
+is-true-requires c κs = search needs
 
 keep-row-requires : tie.Need-keep-row-requires Inv-loop μ-loop
 keep-row-requires c κs = search needs
@@ -50,13 +53,15 @@ loop-less : tie.Need-loop-less Inv-loop μ-loop
 loop-less c = search needs
 
 loop-again : tie.Need-loop-again Inv-loop μ-loop
+unfolding trueOn
 loop-again c =
-    let tested = c .before .before .before .before .true-on in
-    let head = c .before .before .before .before .before .before .before .before in
+    let asked = c .before .before .before .before in
+    let head = asked .before .before .before .before .before in
     let q = head .before .before .before .args .q .now in
     let cur = head .loop .space in
     let i = head .loop .i in
-    let test = tested .ensures ∙ ap (λ (l : List ℕ). trueOn (conditionOf q) (rowAt 0 l)) (part-drop cur (rowLength * i)) in
+    let here = ap (λ (l : List ℕ). truthOn (rowAt 0 l .cells) (conditionOf q)) (part-drop cur (rowLength * i)) in
+    let test = asked .is-true .ensures ∙ ap isTrue (asked .before .truth-on .ensures ∙ here) in
     compacted-more (head .before .before .before .pre .1) (head .loop .inv) (omega arith) _ test (c .before .before .keep-row .ensures)
 
 same-length : tie.Need-same-length Inv-loop μ-loop
@@ -73,11 +78,12 @@ keep-true-spec =
     μ-loop
     loop-holds
     mul-from
-    mul-true-on
-    sub-true-on
-    part-true-on-start
-    part-true-on-end
-    true-on-requires
+    mul-truth-on
+    sub-truth-on
+    part-truth-on-start
+    part-truth-on-end
+    truth-on-requires
+    is-true-requires
     keep-row-requires
     add-i
     loop-less
