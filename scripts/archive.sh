@@ -37,10 +37,13 @@ archive_or_finish() {
     build_archive || { fail "the archive cannot be built"; finish; }
 }
 
-# compile_c OUTPUT SOURCE...: a C program with the archive. A warning is an error.
+# How C is compiled. A warning is an error.
+c_flags=(-std=c11 -Wall -Wextra -Wconversion -Werror -O2 -Iinclude)
+
+# compile_c OUTPUT SOURCE...: a C program with the archive.
 compile_c() {
     mkdir -p "$(dirname "$1")"
-    gcc -std=c11 -Wall -Wextra -Wconversion -Werror -O2 -Iinclude "${@:2}" "$archive" -o "$1"
+    gcc "${c_flags[@]}" "${@:2}" "$archive" -o "$1"
 }
 
 # compile_display OUTPUT: the C display.
@@ -51,7 +54,7 @@ compile_display() {
 # run_program SOURCE [COMMAND...]: compiles a Rust test program with the archive, runs it (by a command, if there is one) and
 # adds the counts of its last line. Products stand in target/tests.
 run_program() {
-    local source=$1 program last status=0
+    local source=$1 program
     program=target/tests/$(basename "$source" .rs)
     mkdir -p target/tests
     # Modules are shared by the programs, and none has to use all of one.
@@ -59,14 +62,20 @@ run_program() {
         fail "$source does not compile"
         return
     }
-    say running "${@:2}" "$program"
-    "${@:2}" "$program" 2>&1 | tee "$program.log" || status=$?
-    last=$(tail -n 1 "$program.log")
+    run_counted "$program" "${@:2}" "$program"
+}
+
+# run_counted LOG COMMAND...: runs a test program, with what it says in LOG.log too, and adds the counts of its last line.
+run_counted() {
+    local log=$1.log last status=0
+    say running "${@:2}"
+    "${@:2}" 2>&1 | tee "$log" || status=$?
+    last=$(tail -n 1 "$log")
     if [[ ! $last =~ ^([0-9]+)\ passed,\ ([0-9]+)\ failed$ ]]; then
-        fail "$program ended with status $status and without its counts"
+        fail "${*:2} ended with status $status and without its counts"
         return
     fi
     passed=$((passed + BASH_REMATCH[1]))
     failed=$((failed + BASH_REMATCH[2]))
-    if [ "$status" -ne 0 ] && [ "${BASH_REMATCH[2]}" -eq 0 ]; then fail "$program ended with status $status"; fi
+    if [ "$status" -ne 0 ] && [ "${BASH_REMATCH[2]}" -eq 0 ]; then fail "${*:2} ended with status $status"; fi
 }

@@ -1,6 +1,8 @@
 #include "table.h"
 
-enum { RECORD_BYTES = 9, MOST_RECORDS = 65535, MOST_TRUST = 2000 };
+#include "../record.h"
+
+enum { MOST_RECORDS = 65535 };
 
 static struct randwyler_refusal refused(uint32_t number, size_t place)
 {
