@@ -37,13 +37,10 @@ archive_or_finish() {
     build_archive || { fail "the archive cannot be built"; finish; }
 }
 
-# How C is compiled. A warning is an error.
-c_flags=(-std=c11 -Wall -Wextra -Wconversion -Werror -O2 -Iinclude)
-
-# compile_c OUTPUT SOURCE...: a C program with the archive.
+# compile_c OUTPUT SOURCE...: a C program with the archive. A warning is an error.
 compile_c() {
     mkdir -p "$(dirname "$1")"
-    gcc "${c_flags[@]}" "${@:2}" "$archive" -o "$1"
+    gcc -std=c11 -Wall -Wextra -Wconversion -Werror -O2 -Iinclude "${@:2}" "$archive" -o "$1"
 }
 
 # compile_display OUTPUT: the C display.
@@ -62,12 +59,12 @@ run_program() {
         fail "$source does not compile"
         return
     }
-    run_counted "$program" "${@:2}" "$program"
+    run_counted "$program.log" "${@:2}" "$program"
 }
 
-# run_counted LOG COMMAND...: runs a test program, with what it says in LOG.log too, and adds the counts of its last line.
+# run_counted LOG COMMAND...: runs a test program and adds the counts of its last line.
 run_counted() {
-    local log=$1.log last status=0
+    local log=$1 last status=0
     say running "${@:2}"
     "${@:2}" 2>&1 | tee "$log" || status=$?
     last=$(tail -n 1 "$log")

@@ -31,13 +31,7 @@ compile_call() {
     compile_c "target/bench/$1" bench/{clock,record}.c bench/"$1"/*.c
 }
 
-# archive_plain OUTPUT: the plain C evaluation as an archive, under the name of our call.
-archive_plain() {
-    local objects=target/bench/plain
-    rm -rf "$objects" "$1"
-    mkdir -p "$objects" "$(dirname "$1")"
-    for source in bench/check/table.c bench/rewrite/query.c bench/evaluate/plain.c; do
-        gcc "${c_flags[@]}" -Dplain_evaluate=randwyler_evaluate -c "$source" -o "$objects/$(basename "$source" .c).o" || return 1
-    done
-    ar rcs "$1" "$objects"/*.o
+# compile_plain OUTPUT: the plain C evaluation as an object, under the name of our call.
+compile_plain() {
+    compile_c "$1" -r -Dplain_evaluate=randwyler_evaluate bench/check/table.c bench/rewrite/query.c bench/evaluate/plain.c
 }

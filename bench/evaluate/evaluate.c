@@ -43,24 +43,24 @@ static void *allocate(size_t bytes)
     return memory;
 }
 
-static void load(struct bench *b, enum contender c)
+static void load(struct bench *b, enum contender c, int loads)
 {
     b->load[c] = INFINITY;
-    for (int i = 0; i < LOADS; i++) {
+    for (int i = 0; i < loads; i++) {
         sqlite_close(b->db[c]);
         double start = clock_now();
         b->db[c] = sqlite_open(b->table, b->records, c == INDEXED);
-        b->load[c] = fmin(b->load[c], clock_now() - start);
+        if (b->db[c] != NULL) b->load[c] = fmin(b->load[c], clock_now() - start);
     }
 }
 
-static struct bench bench_open(size_t records, uint64_t seed)
+static struct bench bench_open(size_t records, uint64_t seed, int loads)
 {
     struct bench b = {.table = allocate(RECORD_BYTES * records), .records = records, .words = ROW_WORDS * records};
     store_fill(b.table, records, seed);
     for (int c = 0; c < CONTENDERS; c++) b.space[c] = allocate(b.words * sizeof *b.space[c]);
-    load(&b, KEYED);
-    load(&b, INDEXED);
+    load(&b, KEYED, loads);
+    load(&b, INDEXED, loads);
     return b;
 }
 
@@ -174,7 +174,7 @@ static void time_question(struct bench *b, size_t question, double *best)
 
 static void time_table(size_t records)
 {
-    struct bench b = bench_open(records, 1);
+    struct bench b = bench_open(records, 1, LOADS);
     unsigned failed = 0;
     for (size_t i = 0; i < question_count; i++) compare(&b, i, &failed);
     if (failed != 0) exit(1);
@@ -205,11 +205,11 @@ static int time_all(void)
 
 static int compare_all(void)
 {
-    static const size_t records[] = {1500, 3000};
+    static const size_t records[] = {1500, 12000};
     unsigned passed = 0, failed = 0;
-    for (uint64_t seed = 1; seed <= 3; seed++) {
+    for (uint64_t seed = 1; seed <= 4; seed++) {
         for (size_t i = 0; i < sizeof records / sizeof records[0]; i++) {
-            struct bench b = bench_open(records[i], seed);
+            struct bench b = bench_open(records[i], seed, 1);
             for (size_t question = 0; question < question_count; question++) passed += compare(&b, question, &failed);
             bench_close(&b);
         }
@@ -221,7 +221,7 @@ static int compare_all(void)
 static int once(size_t question, size_t records)
 {
     if (question >= question_count || records > MOST_RECORDS) return 2;
-    struct bench b = bench_open(records, 1);
+    struct bench b = bench_open(records, 1, 1);
     struct randwyler_evaluated ours = evaluate(&b, OURS, question);
     printf("%s: rows %u peak %u pairs %llu\n", questions[question].name, ours.rows, ours.peak, (unsigned long long)ours.pairs);
     bench_close(&b);
