@@ -19,6 +19,7 @@ set grid lt 1 lc rgb "#dddddd"
 set xrange [3500:80000]
 set yrange [0.001:10000]
 set xtics ("4,095" 4095, "" 8191, "16,383" 16383, "" 32767, "65,535" 65535)
+set mytics 1
 unset key
 set multiplot layout 2,4 title "Milliseconds by records, both on logarithmic scales"
 do for [i = 0:questions - 1] {

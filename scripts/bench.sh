@@ -13,7 +13,6 @@ provide() {
 }
 
 provide_sqlite() { provide libsqlite3-dev gcc -E -include sqlite3.h -x c /dev/null; }
-provide_gnuplot() { provide gnuplot-nox gnuplot --version; }
 
 # compile_evaluate OUTPUT: the program that compares and times evaluations.
 compile_evaluate() {

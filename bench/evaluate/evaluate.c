@@ -18,10 +18,10 @@
 #include "sqlite.h"
 #include "store.h"
 
-enum { MOST_RECORDS = 65535, MOST_REWRITTEN = 5 * MOST_QUERY, LOADS = 3, LEAST_ROUNDS = 3, MOST_ROUNDS = 50, MOST_CALLS = 1000 };
+enum { MOST_RECORDS = 65535, MOST_REWRITTEN = 5 * MOST_QUERY, LOADS = 3, LEAST_ROUNDS = 3, MOST_ROUNDS = 200, MOST_CALLS = 1000 };
 
 /* A question has this time for all its rounds, and a contender at least this time in each, in nanoseconds. */
-static const double QUESTION_TIME = 1e9, ROUND_TIME = 2e6;
+static const double QUESTION_TIME = 2e9, ROUND_TIME = 2e6;
 
 enum contender { OURS, PLAIN, KEYED, INDEXED, CONTENDERS };
 
