@@ -1,6 +1,6 @@
 # gnuplot -c bench/plot.gp TIMES OUTPUT: the times of `evaluate time` by records, a panel for each question, as SVG.
 times = ARG1
-questions = 7
+questions = int(system(sprintf("sed 1d '%s' | cut -f 1 | sort -u | wc -l", times)))
 contenders = 4
 first_column = 6 # of the times
 array label[contenders] = ["ours", "C", "SQLite", "SQLite, indexed"]

@@ -4,7 +4,7 @@
 
 #include <stdint.h>
 
-enum { RECORD_BYTES = 9, TERM_BITS = 20, MOST_TRUST = 2000, UNKNOWN = MOST_TRUST + 1 };
+enum { MOST_RECORDS = 65535, RECORD_BYTES = 9, TERM_BITS = 20, MOST_TRUST = 2000, UNKNOWN = MOST_TRUST + 1 };
 
 /* Subject, predicate and object, each of TERM_BITS bits; and the trust as a row has it: plus 1000, or UNKNOWN. */
 struct record {

@@ -2,8 +2,6 @@
 
 #include "../record.h"
 
-enum { MOST_RECORDS = 65535 };
-
 static struct randwyler_refusal refused(uint32_t number, size_t place)
 {
     return (struct randwyler_refusal){number, place};

@@ -18,12 +18,18 @@
 #include "sqlite.h"
 #include "store.h"
 
-enum { MOST_RECORDS = 65535, MOST_REWRITTEN = 5 * MOST_QUERY, LOADS = 3, LEAST_ROUNDS = 3, MOST_ROUNDS = 200, MOST_CALLS = 1000 };
+enum { MOST_REWRITTEN = 5 * MOST_QUERY, LOADS = 3, LEAST_ROUNDS = 3, MOST_ROUNDS = 200, MOST_CALLS = 1000 };
 
 /* A question has this time for all its rounds, and a contender at least this time in each, in nanoseconds. */
 static const double QUESTION_TIME = 2e9, ROUND_TIME = 2e6;
 
 enum contender { OURS, PLAIN, KEYED, INDEXED, CONTENDERS };
+
+/* The query of each question. */
+static struct {
+    size_t length;
+    uint8_t bytes[MOST_REWRITTEN];
+} queries[MOST_QUESTIONS];
 
 /* A table, the contenders' row spaces of `words` words, and the table in SQLite. */
 struct bench {
@@ -75,21 +81,22 @@ static void bench_close(struct bench *b)
 
 /* ---- answers */
 
-/* The query of a question: its bytes, or their rewriting. */
-static size_t query_of(const struct question *q, uint8_t *query)
+static void make_queries(void)
 {
-    if (!q->rewritten) {
-        memcpy(query, q->query, q->length);
-        return q->length;
+    for (size_t i = 0; i < question_count; i++) {
+        const struct question *q = &questions[i];
+        queries[i].length = q->length;
+        memcpy(queries[i].bytes, q->query, q->length);
+        /* A refused rewriting leaves no bytes, and no bytes are no query: the answers then differ. */
+        if (q->rewritten) queries[i].length = (size_t)randwyler_rewrite(q->query, q->length, queries[i].bytes, MOST_REWRITTEN).length;
     }
-    return (size_t)randwyler_rewrite(q->query, q->length, query, MOST_REWRITTEN).length;
 }
 
 static struct randwyler_evaluated evaluate(struct bench *b, enum contender c, size_t question)
 {
     const struct randwyler_tally none = {0, 0};
-    uint8_t query[MOST_REWRITTEN];
-    size_t length = query_of(&questions[question], query), bytes = RECORD_BYTES * b->records;
+    const uint8_t *query = queries[question].bytes;
+    size_t length = queries[question].length, bytes = RECORD_BYTES * b->records;
     if (c == OURS) return randwyler_evaluate(b->table, bytes, query, length, b->space[c], b->words, none);
     return plain_evaluate(b->table, bytes, query, length, b->space[c], b->words, none);
 }
@@ -125,28 +132,32 @@ static bool same_rows(uint32_t *a, uint32_t *b, size_t rows)
     return memcmp(a, b, rows * bytes) == 0;
 }
 
-/* Compares the contenders' answers to a question. Answers how many agree with ours, and counts those that do not in *failed. */
-static unsigned compare(struct bench *b, size_t question, unsigned *failed)
+/* Whether a contender's answer is ours, which stands in our row space; SQLite's rows and ours are sorted to compare them. */
+static bool agrees(struct bench *b, enum contender c, size_t question, struct randwyler_evaluated ours)
 {
-    unsigned agreeing = 0;
+    if (ours.number != 0 || ours.rows == 0) return false;
+    if (c != PLAIN) return answer(b, c, question) == ours.rows && same_rows(b->space[OURS], b->space[c], ours.rows);
+    return same_counts(ours, evaluate(b, c, question)) &&
+           memcmp(b->space[OURS], b->space[c], b->words * sizeof *b->space[c]) == 0;
+}
+
+/* Compares the contenders' answers to a question: raises *passed for each that is ours, else *failed. */
+static void compare(struct bench *b, size_t question, unsigned *passed, unsigned *failed)
+{
+    static const char *const names[CONTENDERS] = {"", "the plain evaluation", "SQLite", "SQLite with an index"};
     /* What stands in a row space before the call has no influence. */
     memset(b->space[OURS], 0xA5, b->words * sizeof *b->space[OURS]);
     memset(b->space[PLAIN], 0x5A, b->words * sizeof *b->space[PLAIN]);
     struct randwyler_evaluated ours = evaluate(b, OURS, question);
     for (enum contender c = PLAIN; c < CONTENDERS; c++) {
         if (!there(b, c)) continue;
-        bool same = ours.number == 0 && ours.rows > 0;
-        if (c == PLAIN) {
-            same = same && same_counts(ours, evaluate(b, c, question)) &&
-                   memcmp(b->space[OURS], b->space[c], b->words * sizeof *b->space[c]) == 0;
+        if (agrees(b, c, question, ours)) {
+            ++*passed;
         } else {
-            same = same && answer(b, c, question) == ours.rows && same_rows(b->space[OURS], b->space[c], ours.rows);
+            ++*failed;
+            fprintf(stderr, "evaluate: %s, %zu records: another answer by %s\n", questions[question].name, b->records, names[c]);
         }
-        static const char *const names[CONTENDERS] = {"", "the plain evaluation", "SQLite", "SQLite with an index"};
-        if (!same) fprintf(stderr, "evaluate: %s, %zu records: other rows by %s\n", questions[question].name, b->records, names[c]);
-        *(same ? &agreeing : failed) += 1;
     }
-    return agreeing;
 }
 
 /* ---- times */
@@ -175,8 +186,8 @@ static void time_question(struct bench *b, size_t question, double *best)
 static void time_table(size_t records)
 {
     struct bench b = bench_open(records, 1, LOADS);
-    unsigned failed = 0;
-    for (size_t i = 0; i < question_count; i++) compare(&b, i, &failed);
+    unsigned passed = 0, failed = 0;
+    for (size_t i = 0; i < question_count; i++) compare(&b, i, &passed, &failed);
     if (failed != 0) exit(1);
     for (size_t i = 0; i < question_count; i++) {
         double best[CONTENDERS];
@@ -210,7 +221,7 @@ static int compare_all(void)
     for (uint64_t seed = 1; seed <= 4; seed++) {
         for (size_t i = 0; i < sizeof records / sizeof records[0]; i++) {
             struct bench b = bench_open(records[i], seed, 1);
-            for (size_t question = 0; question < question_count; question++) passed += compare(&b, question, &failed);
+            for (size_t question = 0; question < question_count; question++) compare(&b, question, &passed, &failed);
             bench_close(&b);
         }
     }
@@ -230,6 +241,7 @@ static int once(size_t question, size_t records)
 
 int main(int count, char **arguments)
 {
+    make_queries();
     if (count == 2 && strcmp(arguments[1], "time") == 0) return time_all();
     if (count == 2 && strcmp(arguments[1], "compare") == 0) return compare_all();
     if (count == 4 && strcmp(arguments[1], "once") == 0) {

@@ -53,3 +53,4 @@ const struct question questions[] = {
             " SELECT a.s, a.pan, a.crew, b.s, min(a.t, b.t) FROM boiled a JOIN boiled b ON b.pan = a.pan AND b.crew = a.crew"},
 };
 const size_t question_count = sizeof questions / sizeof questions[0];
+_Static_assert(sizeof questions / sizeof questions[0] <= MOST_QUESTIONS, "room for every question");

@@ -6,7 +6,7 @@
 #include <stddef.h>
 #include <stdint.h>
 
-enum { MOST_QUERY = 64, MOST_COLUMNS = 4 };
+enum { MOST_QUESTIONS = 16, MOST_QUERY = 64, MOST_COLUMNS = 4 };
 
 struct question {
     const char *name;

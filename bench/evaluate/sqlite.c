@@ -9,8 +9,6 @@
 #include "plain.h"
 #include "store.h"
 
-enum { MOST_QUESTIONS = 16 };
-
 struct sqlite {
     sqlite3 *db;
     sqlite3_stmt *asked[MOST_QUESTIONS];
@@ -62,8 +60,9 @@ static void insert(sqlite3 *db, sqlite3_stmt *s, const uint8_t *record)
 struct sqlite *sqlite_open(const uint8_t *table, size_t records, bool indexed)
 {
     struct sqlite *lite = calloc(1, sizeof *lite);
-    if (lite == NULL || question_count > MOST_QUESTIONS) abort();
-    require(lite->db, sqlite3_open(":memory:", &lite->db) == SQLITE_OK);
+    if (lite == NULL) abort();
+    int opened = sqlite3_open(":memory:", &lite->db);
+    require(lite->db, opened == SQLITE_OK);
     run(lite->db, "CREATE TABLE facts(s INTEGER NOT NULL, p INTEGER NOT NULL, o INTEGER NOT NULL, trust INTEGER,"
                   " PRIMARY KEY(s, p, o)) WITHOUT ROWID; BEGIN");
     sqlite3_stmt *s = prepare(lite->db, "INSERT INTO facts VALUES(?, ?, ?, ?)");

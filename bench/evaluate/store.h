@@ -9,7 +9,7 @@
 /* Predicates. */
 enum { SAMPLE = 10, GRADE = 20, PAN = 30, CREW = 40 };
 
-/* A grade that an eighth of the strikes have, and a strike that every table of 1,000 records has. */
+/* A grade that an eighth of the strikes have, and a strike near the front of the table. */
 enum { ONE_GRADE = 21, ONE_STRIKE = 100 };
 
 /* Writes a table of so many records, always the same for the same seed. */
