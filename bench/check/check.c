@@ -5,29 +5,16 @@
 #include <stdlib.h>
 
 #include "../clock.h"
+#include "../record.h"
 #include "table.h"
 
-enum { RECORDS = 65535, BYTES = 9 * RECORDS, ROUNDS = 200, CALLS = 4 };
-
-/* Bits of one record, the first bit being the most significant. */
-static void put(uint8_t *record, unsigned from, unsigned width, uint32_t value)
-{
-    for (unsigned i = 0; i < width; i++) {
-        unsigned bit = from + i;
-        if (value >> (width - 1 - i) & 1) record[bit / 8] |= (uint8_t)(0x80 >> bit % 8);
-    }
-}
+enum { RECORDS = 65535, BYTES = RECORD_BYTES * RECORDS, ROUNDS = 200, CALLS = 4 };
 
 static void fill(uint8_t *table)
 {
     for (uint32_t i = 0; i < RECORDS; i++) {
-        uint8_t *record = table + 9 * (size_t)i;
-        int known = i % 8 != 0;
-        put(record, 0, 20, 1 + i / 64);
-        put(record, 20, 20, 10 + i / 8 % 8);
-        put(record, 40, 20, 1000000 + i % 8);
-        put(record, 60, 1, (uint32_t)known);
-        put(record, 61, 11, known ? i % 2001 : 0);
+        struct record r = {1 + i / 64, 10 + i / 8 % 8, 1000000 + i % 8, i % 8 != 0 ? i % 2001 : UNKNOWN};
+        record_write(table + RECORD_BYTES * (size_t)i, r);
     }
 }
 

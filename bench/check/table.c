@@ -1,6 +1,6 @@
 #include "table.h"
 
-enum { RECORD_BYTES = 9, MOST_RECORDS = 65535, MOST_TRUST = 2000 };
+#include "../record.h"
 
 static struct randwyler_refusal refused(uint32_t number, size_t place)
 {
@@ -12,22 +12,16 @@ struct randwyler_refusal table_check(const uint8_t *table, size_t length)
     if (length % RECORD_BYTES != 0) return refused(1, 0);
     size_t count = length / RECORD_BYTES;
     if (count > MOST_RECORDS) return refused(2, 0);
-    uint64_t front_before = 0;
-    uint32_t object_before = 0;
+    const uint64_t term = (1u << TERM_BITS) - 1;
+    uint64_t before = 0; /* every sound record is above it */
     for (size_t i = 0; i < count; i++) {
         const uint8_t *r = table + RECORD_BYTES * i;
-        uint32_t subject = (uint32_t)r[0] << 12 | (uint32_t)r[1] << 4 | (uint32_t)r[2] >> 4;
-        uint32_t predicate = (r[2] & 15u) << 16 | (uint32_t)r[3] << 8 | r[4];
-        uint32_t object = (uint32_t)r[5] << 12 | (uint32_t)r[6] << 4 | (uint32_t)r[7] >> 4;
+        uint64_t key = record_key(r);
         uint32_t trust = (r[7] & 7u) << 8 | r[8];
-        int known = (r[7] & 8u) != 0;
-        if (subject == 0 || predicate == 0 || object == 0) return refused(3, i);
-        if (trust > MOST_TRUST || (!known && trust != 0)) return refused(3, i);
-        uint64_t front = (uint64_t)subject << 20 | predicate;
-        /* Before the first record stand zeros, and every sound record is above them. */
-        if (front < front_before || (front == front_before && object <= object_before)) return refused(4, i);
-        front_before = front;
-        object_before = object;
+        if ((key >> 2 * TERM_BITS) == 0 || (key >> TERM_BITS & term) == 0 || (key & term) == 0) return refused(3, i);
+        if (trust > MOST_TRUST || ((r[7] & 8u) == 0 && trust != 0)) return refused(3, i);
+        if (key <= before) return refused(4, i);
+        before = key;
     }
     return refused(0, 0);
 }

@@ -34,18 +34,6 @@ static void wrap(struct push *p, struct bound b)
     *p->to++ = (uint8_t)b.high;
 }
 
-static void copy_condition(struct push *p)
-{
-    static const uint8_t bytes[8] = {1, 2, 4, 2, 1, 1, 1, 1}, operands[8] = {0, 0, 0, 0, 1, 2, 2, 0};
-    const uint8_t *end = p->from;
-    for (size_t missing = 1; missing > 0; missing--) {
-        unsigned kind = *end >> 4;
-        end += bytes[kind];
-        missing += operands[kind];
-    }
-    copy(p, (size_t)(end - p->from));
-}
-
 /* Takes the bounds of an ensure trust away and answers what its operand gets. */
 static struct bound meet(struct push *p, struct bound b)
 {
@@ -73,7 +61,7 @@ static void push_node(struct push *p, struct bound b)
     case 2:
         if (b.some) wrap(p, b);
         copy(p, 1);
-        copy_condition(p);
+        copy(p, condition_length(p->from));
         push_node(p, floor);
         push_node(p, none);
         return;
@@ -84,7 +72,7 @@ static void push_node(struct push *p, struct bound b)
         return;
     case 4:
         copy(p, 1);
-        copy_condition(p);
+        copy(p, condition_length(p->from));
         push_node(p, b);
         return;
     case 5:

@@ -114,3 +114,15 @@ struct randwyler_refusal query_check(const uint8_t *query, size_t length, size_t
     }
     return (struct randwyler_refusal){7, place};
 }
+
+size_t condition_length(const uint8_t *condition)
+{
+    static const uint8_t bytes[8] = {1, 2, 4, 2, 1, 1, 1, 1}, operands[8] = {0, 0, 0, 0, 1, 2, 2, 0};
+    const uint8_t *end = condition;
+    for (size_t missing = 1; missing > 0; missing--) {
+        unsigned kind = *end >> 4;
+        end += bytes[kind];
+        missing += operands[kind];
+    }
+    return (size_t)(end - condition);
+}

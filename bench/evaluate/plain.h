@@ -1,0 +1,14 @@
+/* The evaluation of a query, as a C programmer would write it down: what randwyler_evaluate is measured against. It has the
+ * same refusals and the same simple algorithms: a pattern set scans the records for each pattern in turn, a join tries
+ * every pair of rows. */
+#ifndef PLAIN_H
+#define PLAIN_H
+
+#include "randwyler.h"
+
+enum { ROW_WORDS = 17, TRUST_WORD = 16 };
+
+struct randwyler_evaluated plain_evaluate(const uint8_t *table, size_t table_len, const uint8_t *query, size_t query_len,
+                                          uint32_t *space, size_t space_len, struct randwyler_tally tally);
+
+#endif

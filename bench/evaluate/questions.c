@@ -1,0 +1,56 @@
+#include "questions.h"
+
+#include "store.h"
+
+#define QUERY(...) .length = sizeof((const uint8_t[]){__VA_ARGS__}), .query = {__VA_ARGS__}
+#define TERM(term) 0, (term) >> 8, (term) & 255 /* below 65,536 */
+#define VARIABLE(v) 0x10, 0, v
+#define SET(n) n
+#define JOIN 0x10
+#define LEFT_JOIN_TRUE 0x20, 0x70
+#define FROM_500 0x60, 0x5D, 0xC7, 0xD0 /* ensure trust 500 to 1000 */
+
+/* ?0 has the grade; the samples ?1 of ?0. */
+#define GRADED SET(1), VARIABLE(0), TERM(GRADE), TERM(ONE_GRADE)
+#define SAMPLES SET(1), VARIABLE(0), TERM(SAMPLE), VARIABLE(1)
+/* The pan ?1 and the crew ?2 of a strike. */
+#define PAN_AND_CREW(strike) VARIABLE(strike), TERM(PAN), VARIABLE(1), VARIABLE(strike), TERM(CREW), VARIABLE(2)
+
+const struct question questions[] = {
+    {"one strike's records", QUERY(SET(1), TERM(ONE_STRIKE), VARIABLE(0), VARIABLE(1)), .columns = 2, .variables = {0, 1},
+     .sql = "SELECT p, o, trust FROM facts WHERE s = :strike"},
+
+    {"samples, join", QUERY(FROM_500, JOIN, GRADED, SAMPLES), .columns = 2, .variables = {0, 1},
+     .sql = "SELECT g.s, m.o, min(g.trust, m.trust) AS t FROM facts g JOIN facts m ON m.s = g.s"
+            " WHERE g.p = :grade AND g.o = :graded AND m.p = :sample AND t BETWEEN 500 AND 1000"},
+
+    {"samples, join, rewritten", QUERY(FROM_500, JOIN, GRADED, SAMPLES), .rewritten = true, .columns = 2, .variables = {0, 1},
+     .sql = "SELECT g.s, m.o, min(g.trust, m.trust) FROM facts g JOIN facts m ON m.s = g.s"
+            " WHERE g.p = :grade AND g.o = :graded AND g.trust BETWEEN 500 AND 1000"
+            " AND m.p = :sample AND m.trust BETWEEN 500 AND 1000"},
+
+    {"samples, left join", QUERY(FROM_500, LEFT_JOIN_TRUE, GRADED, SAMPLES), .columns = 2, .variables = {0, 1},
+     .sql = "SELECT g.s, m.o, CASE WHEN m.s IS NULL THEN g.trust ELSE min(g.trust, m.trust) END AS t"
+            " FROM facts g LEFT JOIN facts m ON m.s = g.s AND m.p = :sample"
+            " WHERE g.p = :grade AND g.o = :graded AND t BETWEEN 500 AND 1000"},
+
+    {"samples, left join, rewritten", QUERY(FROM_500, LEFT_JOIN_TRUE, GRADED, SAMPLES), .rewritten = true, .columns = 2,
+     .variables = {0, 1},
+     .sql = "SELECT g.s, m.o, CASE WHEN m.s IS NULL THEN g.trust ELSE min(g.trust, m.trust) END AS t"
+            " FROM facts g LEFT JOIN facts m ON m.s = g.s AND m.p = :sample"
+            " WHERE g.p = :grade AND g.o = :graded AND g.trust BETWEEN 500 AND 1000 AND t BETWEEN 500 AND 1000"},
+
+    {"star of three patterns", QUERY(SET(3), VARIABLE(0), TERM(GRADE), TERM(ONE_GRADE), PAN_AND_CREW(0)), .columns = 3,
+     .variables = {0, 1, 2},
+     .sql = "SELECT g.s, p.o, c.o, min(g.trust, p.trust, c.trust)"
+            " FROM facts g JOIN facts p ON p.s = g.s JOIN facts c ON c.s = g.s"
+            " WHERE g.p = :grade AND g.o = :graded AND p.p = :pan AND c.p = :crew"},
+
+    {"pairs with one pan and crew", QUERY(JOIN, SET(2), PAN_AND_CREW(0), SET(2), PAN_AND_CREW(3)), .columns = 4,
+     .variables = {0, 1, 2, 3},
+     .sql = "WITH boiled AS (SELECT p.s, p.o AS pan, c.o AS crew, min(p.trust, c.trust) AS t FROM facts p JOIN facts c ON c.s = p.s"
+            " WHERE p.p = :pan AND c.p = :crew)"
+            " SELECT a.s, a.pan, a.crew, b.s, min(a.t, b.t) FROM boiled a JOIN boiled b ON b.pan = a.pan AND b.crew = a.crew"},
+};
+const size_t question_count = sizeof questions / sizeof questions[0];
+_Static_assert(sizeof questions / sizeof questions[0] <= MOST_QUESTIONS, "room for every question");

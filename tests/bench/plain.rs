@@ -1,0 +1,55 @@
+//! Tests the plain C evaluation that the bench times (bench/evaluate/plain.c), linked under the name `randwyler_evaluate`,
+//! against an independent evaluation (rows.rs) of random queries. The last line is 'N passed, M failed'.
+
+#[path = "../archive/conditions.rs"]
+mod conditions;
+#[path = "../archive/fence.rs"]
+mod fence;
+#[path = "../archive/ffi.rs"]
+mod ffi;
+#[path = "../archive/inputs.rs"]
+mod inputs;
+#[path = "../archive/paper.rs"]
+mod paper;
+#[path = "../archive/queries.rs"]
+mod queries;
+#[path = "../archive/random.rs"]
+mod random;
+#[path = "../archive/report.rs"]
+mod report;
+#[path = "../archive/rows.rs"]
+mod rows;
+#[path = "../archive/spaces.rs"]
+mod spaces;
+#[path = "../archive/tables.rs"]
+mod tables;
+
+use queries::KINDS;
+use random::Random;
+use report::Report;
+use rows::{Seen, LEFT_ROWS};
+use spaces::Spaces;
+
+const CASES: usize = 20_000;
+const MOST_SPACE: usize = 300;
+const MOST_STEPS: u64 = 10_000;
+
+fn main() {
+    let (mut report, mut random, mut spaces) = (Report::default(), Random::new(1), Spaces::new(2));
+    let mut seen = Seen::default();
+    for number in 0..CASES {
+        let (table, query) = match number % 4 {
+            0 => inputs::pattern_set(&mut random),
+            _ => inputs::narrow(&mut random, &mut [[0; KINDS]; KINDS]),
+        };
+        let Some(outcome) = rows::evaluate_within(&table, &query, MOST_SPACE, MOST_STEPS, &mut seen) else { continue };
+        let lengths = spaces::lengths(&outcome);
+        for words in [lengths[0], lengths[1], random.pick(&lengths[2..])] {
+            spaces.test(&mut report, &format!("case {number}"), (&table, &query), &outcome, words);
+        }
+    }
+    for (outcome, count) in LEFT_ROWS.iter().zip(seen.left_rows) {
+        report.case(count >= 1_000, || format!("only {count} left rows were {outcome}"));
+    }
+    std::process::exit(report.finish());
+}
