@@ -5,7 +5,5 @@ pub mod RowWordLaws
 pub mod OperatorLaws
 -- Runs of words that a loop writes
 pub mod PasteLaws
--- Passes that replace rows from the front
-pub mod CompactionLaws
 -- Rows that are written behind others
 pub mod AppendLaws

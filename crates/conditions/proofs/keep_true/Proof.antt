@@ -8,7 +8,7 @@ use Rattle.tsparql.specs.Evaluate.{rowLength}
 use Rattle.tsparql.specs.Conditions.{isTrue, truthOn, trueOn}
 use Rattle.query.proofs.ReadLaws.{part-drop}
 use Rattle.rows.specs.RowWords.{rowAt}
-use Rattle.rows.proofs.CompactionLaws.{Compacted, compacted-none, compacted-more, compacted-all}
+use Rattle.passes.proofs.CompactionLaws.{Compacted, compacted-none, compacted-more, compacted-all}
 use Rattle.conditions.specs.Truths.{conditionOf}
 use Rattle.conditions.proofs.keep_true.Statement.{statement}
 use Rattle.conditions.proofs.keep_true.Tie as tie

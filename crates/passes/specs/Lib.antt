@@ -1,0 +1,2 @@
+-- What the contracts of this crate cite besides the definitions of `tsparql` and the words of rows.
+pub mod Compaction
