@@ -164,23 +164,17 @@ fn deepest() -> Deepest<Ceiling> {
     }
 }
 
-fn run() -> i32 {
-    let mut report = Report::default();
-    vectors(&mut report);
+fn parts(report: &mut Report) {
+    vectors(report);
     report.part("vectors");
-    by_hand(&mut report);
+    by_hand(report);
     report.part("cases by hand");
-    at_limits(&mut report);
+    at_limits(report);
     report.part("limits and NULL");
-    random_cases(&mut report);
+    random_cases(report);
     report.part("random cases");
-    on_threads(&mut report);
-    report.part("threads");
-    deepest().test(&mut report);
-    report.part("deepest queries");
-    report.finish()
 }
 
 fn main() {
-    stack::main(run, deepest);
+    stack::main(parts, on_threads, deepest);
 }

@@ -139,29 +139,23 @@ fn deepest() -> Deepest<Refusal> {
     }
 }
 
-fn run() -> i32 {
-    let mut report = Report::default();
+fn parts(report: &mut Report) {
     let mut nested = [[0; KINDS]; KINDS];
-    vectors(&mut report);
+    vectors(report);
     report.part("vectors");
-    null_pointers(&mut report);
-    short_queries(&mut report);
+    null_pointers(report);
+    short_queries(report);
     report.part("NULL and short queries");
-    table_limits(&mut report);
-    query_limits(&mut report);
+    table_limits(report);
+    query_limits(report);
     report.part("limits");
-    cuts(&mut report, &mut nested);
+    cuts(report, &mut nested);
     report.part("cut queries");
-    random_cases(&mut report, &mut nested);
-    queries::all_nested(&mut report, &nested, 1);
+    random_cases(report, &mut nested);
+    queries::all_nested(report, &nested, 1);
     report.part("random cases");
-    on_threads(&mut report);
-    report.part("threads");
-    deepest().test(&mut report);
-    report.part("deepest queries");
-    report.finish()
 }
 
 fn main() {
-    stack::main(run, deepest);
+    stack::main(parts, on_threads, deepest);
 }

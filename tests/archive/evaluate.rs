@@ -309,32 +309,26 @@ fn deepest() -> Deepest<(Evaluated, Vec<u32>)> {
     }
 }
 
-fn run() -> i32 {
-    let mut report = Report::default();
-    vectors(&mut report);
+fn parts(report: &mut Report) {
+    vectors(report);
     report.part("vectors");
-    known_rows::cases_of_document(&mut report);
-    known_rows::shortcuts(&mut report);
-    known_rows::left_joins(&mut report);
-    known_rows::other_nodes(&mut report);
+    known_rows::cases_of_document(report);
+    known_rows::shortcuts(report);
+    known_rows::left_joins(report);
+    known_rows::other_nodes(report);
     report.part("rows by hand");
-    small_rows::truths(&mut report);
-    small_rows::all_small(&mut report);
+    small_rows::truths(report);
+    small_rows::all_small(report);
     report.part("conditions");
-    at_limits(&mut report);
-    greatest_spaces(&mut report);
+    at_limits(report);
+    greatest_spaces(report);
     report.part("limits");
-    pattern_sets(&mut report);
+    pattern_sets(report);
     report.part("pattern sets");
-    random_cases(&mut report);
+    random_cases(report);
     report.part("random cases");
-    on_threads(&mut report);
-    report.part("threads");
-    deepest().test(&mut report);
-    report.part("deepest queries");
-    report.finish()
 }
 
 fn main() {
-    stack::main(run, deepest);
+    stack::main(parts, on_threads, deepest);
 }

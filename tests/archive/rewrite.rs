@@ -232,26 +232,20 @@ fn deepest() -> Deepest<(Rewritten, Vec<u8>)> {
     }
 }
 
-fn run() -> i32 {
-    let mut report = Report::default();
-    vectors(&mut report);
+fn parts(report: &mut Report) {
+    vectors(report);
     report.part("vectors");
-    by_hand(&mut report);
-    null_pointers(&mut report);
+    by_hand(report);
+    null_pointers(report);
     report.part("cases by hand and NULL");
-    query_limits(&mut report);
+    query_limits(report);
     report.part("limits");
-    longest_results(&mut report);
+    longest_results(report);
     report.part("longest results");
-    random_cases(&mut report);
+    random_cases(report);
     report.part("random cases");
-    on_threads(&mut report);
-    report.part("threads");
-    deepest().test(&mut report);
-    report.part("deepest queries");
-    report.finish()
 }
 
 fn main() {
-    stack::main(run, deepest);
+    stack::main(parts, on_threads, deepest);
 }

@@ -101,9 +101,22 @@ fn least() -> Option<usize> {
     Some(large)
 }
 
-/// What a test program's main does: `run`s the test, or, as a child with `--stack KIB`, ends with 0 if the deepest
-/// queries are answered right on so small a stack.
-pub fn main<Answer: PartialEq + Send + 'static>(run: fn() -> i32, deepest: fn() -> Deepest<Answer>) {
+/// What a test program's main does: runs the test's own `parts`, and then, as every call's test, threads and the deepest queries; or, as
+/// a child with `--stack KIB`, ends with 0 if the deepest queries are answered right on so small a stack.
+pub fn main<Answer: PartialEq + Send + 'static>(
+    parts: fn(&mut Report),
+    on_threads: fn(&mut Report),
+    deepest: fn() -> Deepest<Answer>,
+) {
+    let run = move || {
+        let mut report = Report::default();
+        parts(&mut report);
+        on_threads(&mut report);
+        report.part("threads");
+        deepest().test(&mut report);
+        report.part("deepest queries");
+        report.finish()
+    };
     let arguments: Vec<String> = std::env::args().skip(1).collect();
     let act: Box<dyn FnOnce() -> i32 + Send> = match &arguments[..] {
         [] => Box::new(run),
