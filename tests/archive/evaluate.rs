@@ -130,6 +130,21 @@ fn greatest_spaces(report: &mut Report) {
     }
 }
 
+/// Joins that list nothing, in unions: more pairs together than 32 bits hold.
+fn many_pairs(report: &mut Report) {
+    let half = MOST_ROWS as u32 / 2;
+    let facts: Vec<_> = [1, 2].iter().flat_map(|s| (1..=half).map(move |object| ([*s, *s, object], Some(0)))).collect();
+    // Join of {?0 1 ?1} with {?0 2 ?1}: 32,767 rows each, ?0 is 1 in all of the left and 2 in all of the right.
+    let join = "10 01 100000 000001 100001 01 100000 000002 100001";
+    let query = vectors::query(&format!("30 {join} 30 {join} 30 {join} 30 {join} {join}"));
+    let mut space = vec![0xA5; MOST_ROWS * ROW_WORDS];
+    let got = ffi::evaluate(&tables::facts(&facts), &query, &mut space, Tally { answered: 0, refused: 0 });
+    let tally = Tally { answered: 1, refused: 0 };
+    let expected = Evaluated { refusal: NONE, rows: 0, peak: 65_534, pairs: 5 * 1_073_676_289, tally };
+    report.case(got == expected, || format!("five joins of 32,767 and 32,767 rows => {got}"));
+    report.case(space.iter().all(|word| *word == 0), || "five joins without rows: a word is not 0".to_string());
+}
+
 // ---- A query beside its rewriting
 
 /// How often the two evaluations had each pair of numbers, and how often the rewriting needed less.
@@ -322,6 +337,7 @@ fn parts(report: &mut Report) {
     report.part("conditions");
     at_limits(report);
     greatest_spaces(report);
+    many_pairs(report);
     report.part("limits");
     pattern_sets(report);
     report.part("pattern sets");
