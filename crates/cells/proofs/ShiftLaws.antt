@@ -1,17 +1,17 @@
 -- A trust as a signed number of 16 bits. The machine keeps bits (`ofZ`) and reads them again (`toZ`); each law takes the bits away once
--- and then goes by the sign: `shift` is the machine's sum with 1000, has an inverse up to 2000, and never falls. Assumes nothing.
-use mathlib.Core.Bool.{Bool, true, false, true≢false, false≢true, cond}
+-- and then goes by the sign: `shift` is the machine's sum with 1000, and has an inverse up to 2000, which is in range. Assumes nothing.
+use mathlib.Core.Bool.{Bool, true, false, false≢true, cond}
 use mathlib.Core.Path.{_≡_, refl, ap, _∙_}
-use Prim.Native.Nat.{ℕ, suc, _-_, _^_, _≤_, _<_, min}
+use Prim.Native.Nat.{ℕ, suc, _-_, _^_, _≤_, _<_}
 use native.Mathlib.Omega.{arith}
-use borrow.Author.Tests.{ltb-true, ltb-false, leb-true, leb-false, le-ltb}
+use borrow.Author.Tests.{ltb-true, ltb-false, le-ltb}
 use lib.Dec.{ltb}
 use lib.IntN.{ℤ, pos, negsuc, _+ℤ_, _-ℤ_}
-use lib.Signed.{mag, ltZ, leZ}
+use lib.Signed.{mag, ltZ}
 use mir.Syntax.{w16}
 use mir.Val.{SFits, toZ, ofZ}
 use mir.Facts.{toZ-ofZ, toZ-pos}
-use Rattle.cells.specs.Words.{shift}
+use Rattle.cells.specs.Words.{shift, NumberInRange}
 
 -- ---- shifted: the trust plus 1000
 
@@ -68,6 +68,10 @@ shift-less : (w : ℕ) (b : Bool) → ltb w 1000 ≡ b → w ≤ 2000 → shift 
 shift-less w true e h = omega (arith, ltb-true w 1000 e)
 shift-less w false e h = omega (arith, ltb-false w 1000 e)
 
+less-range : (w : ℕ) (b : Bool) → ltb w 1000 ≡ b → w ≤ 2000 → NumberInRange (cond b (negsuc (1000 - suc w)) (pos (w - 1000)))
+less-range w true e h = omega arith
+less-range w false e h = omega arith
+
 module _ (w : ℕ) (h : w ≤ 2000) where
   -- the difference fits into 16 bits
   pub less-fits : SFits w16 (toZ w16 w -ℤ pos 1000)
@@ -77,25 +81,10 @@ module _ (w : ℕ) (h : w ≤ 2000) where
   pub shift-bits : shift (toZ w16 (ofZ w16 (toZ w16 w -ℤ pos 1000))) ≡ w
   shift-bits = rw (toZ-ofZ less-fits, toZ-pos w16 {n = w} (omega arith)) (shift-less w (ltb w 1000) refl h)
 
--- ---- the order
+  -- and it is in range
+  pub range-bits : NumberInRange (toZ w16 (ofZ w16 (toZ w16 w -ℤ pos 1000)))
+  range-bits = rw (toZ-ofZ less-fits, toZ-pos w16 {n = w} (omega arith)) (less-range w (ltb w 1000) refl h)
 
-shift-le : (x y : ℤ) → leZ x y ≡ true → shift x ≤ shift y
-shift-le (pos m) (pos n) e = omega (arith, leb-true m n e)
-shift-le (pos m) (negsuc n) e = absurd (false≢true e)
-shift-le (negsuc m) (pos n) e = omega arith
-shift-le (negsuc m) (negsuc n) e = omega (arith, leb-true n m e)
-
-shift-ge : (x y : ℤ) → leZ x y ≡ false → shift y ≤ shift x
-shift-ge (pos m) (pos n) e = omega (arith, leb-false m n e)
-shift-ge (pos m) (negsuc n) e = omega arith
-shift-ge (negsuc m) (pos n) e = absurd (true≢false e)
-shift-ge (negsuc m) (negsuc n) e = omega (arith, leb-false n m e)
-
-module _ (x y : ℤ) (f : SFits w16 x) (g : SFits w16 y) where
-  -- the test passed: the first has the lesser shifted number
-  pub first-min : leZ (toZ w16 (ofZ w16 x)) (toZ w16 (ofZ w16 y)) ≡ true → shift x ≡ min (shift x) (shift y)
-  first-min e = omega (arith, shift-le x y (rw (toZ-ofZ f, toZ-ofZ g) at e))
-
-  -- the test failed: the second has it
-  pub second-min : leZ (toZ w16 (ofZ w16 x)) (toZ w16 (ofZ w16 y)) ≡ false → shift y ≡ min (shift x) (shift y)
-  second-min e = omega (arith, shift-ge x y (rw (toZ-ofZ f, toZ-ofZ g) at e))
+-- bits that are read again are in range
+pub range-read : (z : ℤ) → SFits w16 z → NumberInRange z → NumberInRange (toZ w16 (ofZ w16 z))
+range-read z f h = rw (toZ-ofZ f) h

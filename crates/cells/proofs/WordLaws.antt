@@ -1,17 +1,17 @@
 -- Words and what they stand for. Reading what was written gives the value (for a sound trust and a formed cell), writing what was read
--- gives the word (up to 2001 and 1,050,577), and what is read is always sound and formed. By cases on the tests. Assumes nothing.
+-- gives the word (up to 2001 and 1,050,577), what is read is always sound and formed, and values in range are fixed by what they stand for. By cases on the tests. Assumes nothing.
 use mathlib.Core.Bool.{Bool, true, false, cond}
 use mathlib.Core.Path.{_≡_, refl, ap}
 use Prim.Native.Nat.{ℕ, _+_, _-_, _≤_}
 use native.Mathlib.Omega.{arith}
 use borrow.Author.Tests.{leb-true, leb-false, le-leb, ltb-true, ltb-false, lt-ltb, le-ltb, eqb-true, eqb-false, ne-eqb}
 use lib.Dec.{leb, ltb, eqb}
+use lib.IntN.{ℤ, pos, negsuc}
 use Rattle.tsparql.specs.Values.{Trust, known, unknown, Sound, Cell, free, term, trusted}
 use Rattle.tsparql.specs.Evaluate.{trustWord, cellWord}
 use Rattle.cells.specs.declared.Trust as Declared
 use Rattle.cells.specs.declared.Trust.the-variants.{Known, Unknown}
-use Rattle.cells.specs.Words.{trustIn, wordTrust, wordCell, Formed}
-use Rattle.cells.proofs.ShiftLaws.{shift-small}
+use Rattle.cells.specs.Words.{shift, trustIn, NumberInRange, InRange, wordTrust, wordCell, Formed}
 
 -- ---- trust
 
@@ -36,10 +36,19 @@ sound-by w false e = tt
 pub word-sound : (w : ℕ) → Sound (wordTrust w)
 word-sound w = sound-by w (leb w 2000) refl
 
--- every value of the code is a sound trust
-pub value-sound : (t : Declared.Trust) → Sound (trustIn t)
-value-sound (Known z) = shift-small z
-value-sound Unknown = tt
+-- numbers in range with one shifted number are the same
+shift-apart : (x y : ℤ) → NumberInRange x → NumberInRange y → shift x ≡ shift y → x ≡ y
+shift-apart (pos m) (pos n) h k e = ap pos (omega arith)
+shift-apart (pos m) (negsuc n) h k e = absurd (omega arith)
+shift-apart (negsuc m) (pos n) h k e = absurd (omega arith)
+shift-apart (negsuc m) (negsuc n) h k e = ap negsuc (omega arith)
+
+-- values in range that stand for one trust are the same
+pub value-fixed : (s t : Declared.Trust) → InRange s → InRange t → trustIn s ≡ trustIn t → s ≡ t
+value-fixed (Known x) (Known y) h k e = ap Known (shift-apart x y h k cc)
+value-fixed (Known x) Unknown h k e = cc
+value-fixed Unknown (Known y) h k e = cc
+value-fixed Unknown Unknown h k e = refl
 
 pub trust-word-small : (t : Trust) → Sound t → trustWord t ≤ 2001
 trust-word-small (known n) h = omega arith

@@ -28,6 +28,22 @@ cellIn Free = D.free
 cellIn (Term n) = D.term n
 cellIn (Trusted t) = D.trusted (trustIn t)
 
+-- a number in the range of trusts, from -1000 to 1000; there `shift` keeps numbers apart
+abbrev pub NumberInRange : ℤ → Type 0
+NumberInRange (pos n) = n ≤ 1000
+NumberInRange (negsuc n) = n ≤ 999
+
+-- a known trust is in range
+abbrev pub InRange : Trust → Type 0
+InRange (Known z) = NumberInRange z
+InRange Unknown = Unit {0}
+
+-- a cell's trust, if any, is in range
+abbrev pub CellInRange : Cell → Type 0
+CellInRange Free = Unit {0}
+CellInRange (Term n) = Unit {0}
+CellInRange (Trusted t) = InRange t
+
 -- ---- words
 
 -- the trust of a word: unknown above 2000

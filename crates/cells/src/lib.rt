@@ -2,9 +2,9 @@
 // by `trustIn` and `cellIn` of specs/Words.antt. A signed number is used here only: other crates see trusts, cells and words.
 ghost use mathlib.Core.Path.{_≡_};
 ghost use Prim.Native.Nat.{_≤_};
-ghost use Rattle.tsparql.specs.Values.{lesser, sameTrust, isFree, sameCell, agree};
-ghost use Rattle.tsparql.specs.Evaluate.{trustWord, cellWord};
-ghost use Rattle.cells.specs.Words.{shift, trustIn, cellIn, wordTrust, wordCell};
+ghost use Rattle.tsparql.specs.Values.{sameTrust, isFree, sameCell};
+ghost use Rattle.tsparql.specs.Evaluate.{trustWord};
+ghost use Rattle.cells.specs.Words.{shift, trustIn, cellIn, wordTrust, wordCell, NumberInRange, InRange, CellInRange};
 
 // A trust in thousandths, from -1000 to 1000, or unknown.
 pub enum Trust {
@@ -38,7 +38,8 @@ fn shifted(t: i16) -> u32
 // The trust whose shifted number is `w`.
 fn unshifted(w: u32) -> i16
     requires { ⌜ w ≤ 2000 ⌝ }
-    ensures { λ r. ⌜ shift r ≡ w ⌝ }
+    ensures number { λ r. ⌜ shift r ≡ w ⌝ }
+    ensures in_range { λ r. ⌜ NumberInRange r ⌝ }
 {
     (w as i16) - 1000
 }
@@ -54,8 +55,9 @@ pub fn trust_word(t: Trust) -> u32
 }
 
 // The trust of a word: unknown above 2000.
-pub fn word_trust(w: u32) -> Trust
-    ensures { λ r. ⌜ trustIn r ≡ wordTrust w ⌝ }
+fn word_trust(w: u32) -> Trust
+    ensures trust { λ r. ⌜ trustIn r ≡ wordTrust w ⌝ }
+    ensures in_range { λ r. ⌜ InRange r ⌝ }
 {
     if w <= 2000 {
         Trust::Known(unshifted(w))
@@ -64,20 +66,10 @@ pub fn word_trust(w: u32) -> Trust
     }
 }
 
-// The word of a cell: 0 free, the term, or 1,048,576 and the word of the trust.
-pub fn cell_word(c: Cell) -> u32
-    ensures { λ r. ⌜ r ≡ cellWord (cellIn c) ⌝ }
-{
-    match c {
-        Cell::Free => 0,
-        Cell::Term(n) => n,
-        Cell::Trusted(t) => FIRST_TRUST + trust_word(t),
-    }
-}
-
 // The cell of a word: 0 is free, a word below 1,048,576 a term, any other a trust.
 pub fn word_cell(w: u32) -> Cell
-    ensures { λ r. ⌜ cellIn r ≡ wordCell w ⌝ }
+    ensures cell { λ r. ⌜ cellIn r ≡ wordCell w ⌝ }
+    ensures in_range { λ r. ⌜ CellInRange r ⌝ }
 {
     if w == 0 {
         return Cell::Free;
@@ -88,21 +80,8 @@ pub fn word_cell(w: u32) -> Cell
     Cell::Trusted(word_trust(w - FIRST_TRUST))
 }
 
-// The lesser of two trusts: unknown if either is.
-pub fn lesser_of(a: Trust, b: Trust) -> Trust
-    ensures { λ r. ⌜ trustIn r ≡ lesser (trustIn a) (trustIn b) ⌝ }
-{
-    match a {
-        Trust::Known(x) => match b {
-            Trust::Known(y) => { if x <= y { a } else { b } }
-            Trust::Unknown => b,
-        },
-        Trust::Unknown => a,
-    }
-}
-
 // Whether two trusts are the same: two unknown ones are.
-pub fn same_trust(a: Trust, b: Trust) -> bool
+fn same_trust(a: Trust, b: Trust) -> bool
     ensures { λ r. ⌜ r ≡ sameTrust (trustIn a) (trustIn b) ⌝ }
 {
     match a {
@@ -145,17 +124,4 @@ pub fn same_cell(a: Cell, b: Cell) -> bool
             Cell::Trusted(t) => same_trust(s, t),
         },
     }
-}
-
-// Whether two cells agree: not set differently in both.
-pub fn agrees(a: Cell, b: Cell) -> bool
-    ensures { λ r. ⌜ r ≡ agree (cellIn a) (cellIn b) ⌝ }
-{
-    if is_free(a) {
-        return true;
-    }
-    if is_free(b) {
-        return true;
-    }
-    same_cell(a, b)
 }

@@ -9,7 +9,7 @@ use lib.Dec.{leb}
 use lib.ListN.{length, take, drop, length-drop}
 use lib.Seq.{drop-drop}
 use Rattle.tsparql.specs.Query.{Pattern}
-use Rattle.tsparql.specs.Reading.{Read, got, fault, andThen, require, bits24, slotSound, slotOf, readPattern, readPatterns}
+use Rattle.tsparql.specs.Reading.{Read, got, fault, andThen, require, bits24, slotSound, patternAt, readPattern, readPatterns}
 use Rattle.tsparql.proofs.WrittenRead.{readPattern-sound, Reads}
 use Rattle.tsparql.specs.WellFormed.{PatternFormed}
 use Rattle.tsparql.specs.Writing.{patternBytes}
@@ -37,7 +37,7 @@ pattern-fault : (s : List ℕ) (p : ℕ) → readPattern s ≡ fault p → p ≡
 unfolding readPattern
 pattern-fault s p e =
     go (leb 9 (length s) && slotSound (bits24 s 0) && slotSound (bits24 s 3) && slotSound (bits24 s 6))
-    (record { subject = slotOf (bits24 s 0); predicate = slotOf (bits24 s 3); object = slotOf (bits24 s 6) }) e
+    (patternAt s) e
   where
     go : (b : Bool) (x : Pattern) → require b (got x 9) ≡ fault p → p ≡ 0
     go true x d = cc

@@ -3,7 +3,7 @@
 use mathlib.Core.Path.{_≡_, refl, sym, ap, _∙_}
 use mathlib.Core.Bool.{Bool, true, false, _||_}
 use mathlib.Core.List.{List, [], _∷_, _++_}
-use Prim.Native.Nat.{ℕ, zero, suc, _+_, _-_, _%_, _≤_, _<_}
+use Prim.Native.Nat.{ℕ, zero, suc, _+_, _-_, _≤_, _<_}
 use native.Mathlib.Nat.{zero-add}
 use native.Mathlib.Omega.{arith}
 use borrow.Author.Tests.{lt-ltb, le-ltb, eqb-true, eqb-false, eq-eqb, ne-eqb}
@@ -21,12 +21,12 @@ use Rattle.scope.proofs.Uses.{occurrences-append}
 pub slot-term : (v x : ℕ) → x < 1048576 → has v (slotVariables (slotOf x)) ≡ false
 slot-term v x l = rw (lt-ltb x 1048576 l)
 
-pub slot-variable : (v x : ℕ) → 1048576 ≤ x → has v (slotVariables (slotOf x)) ≡ eqb (x % 1048576) v
-slot-variable v x l = rw (le-ltb x 1048576 l) (go (eqb v (x % 1048576)) refl)
+pub slot-variable : (v x : ℕ) → 1048576 ≤ x → has v (slotVariables (slotOf x)) ≡ eqb (x - 1048576) v
+slot-variable v x l = rw (le-ltb x 1048576 l) (go (eqb v (x - 1048576)) refl)
   where
-    go : (b : Bool) → eqb v (x % 1048576) ≡ b → has v ((x % 1048576) ∷ []) ≡ eqb (x % 1048576) v
-    go true e = rw (e, eq-eqb (x % 1048576) v (sym (eqb-true v (x % 1048576) e)))
-    go false e = rw (e, ne-eqb (x % 1048576) v (λ d. eqb-false v (x % 1048576) e (sym d)))
+    go : (b : Bool) → eqb v (x - 1048576) ≡ b → has v ((x - 1048576) ∷ []) ≡ eqb (x - 1048576) v
+    go true e = rw (e, eq-eqb (x - 1048576) v (sym (eqb-true v (x - 1048576) e)))
+    go false e = rw (e, ne-eqb (x - 1048576) v (λ d. eqb-false v (x - 1048576) e (sym d)))
 
 pub has-append : (v : ℕ) (xs ys : List ℕ) → has v (xs ++ ys) ≡ has v xs || has v ys
 has-append v xs ys = go (occurrences v xs) refl

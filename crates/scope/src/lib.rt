@@ -37,7 +37,7 @@ fn slot_has(x: u32, v: u8) -> bool
     if x < 1048576 {
         false
     } else {
-        let w = x % 1048576;
+        let w = x - 1048576;
         w == v as u32
     }
 }

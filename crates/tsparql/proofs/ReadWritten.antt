@@ -5,7 +5,7 @@
 use mathlib.Core.Path.{_≡_, refl, sym, ap, _∙_}
 use mathlib.Core.Bool.{true}
 use mathlib.Core.List.{List, [], _∷_, _++_, append-assoc, append-nil}
-use Prim.Native.Nat.{ℕ, suc, _+_, _*_, _/_, _%_, _<_}
+use Prim.Native.Nat.{ℕ, suc, _+_, _-_, _*_, _/_, _%_, _<_}
 use native.Mathlib.Nat.{zero-add}
 use native.Mathlib.Omega.{arith}
 use borrow.Author.Tests.{le-leb, lt-ltb, le-ltb, eq-eqb}
@@ -53,7 +53,7 @@ slotSound-slotNumber (aVariable v) h =
 slotOf-slotNumber : (s : Slot) → SlotFormed s → slotOf (slotNumber s) ≡ s
 slotOf-slotNumber (aTerm a) h = rw (lt-ltb a 1048576 (h .1))
 slotOf-slotNumber (aVariable v) h =
-    let e : (1048576 + v) % 1048576 ≡ v = omega arith in
+    let e : (1048576 + v) - 1048576 ≡ v = omega arith in
     rw (le-ltb (1048576 + v) 1048576 (omega arith), e)
 
 -- a pattern back from its bytes

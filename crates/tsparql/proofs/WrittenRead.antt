@@ -6,7 +6,7 @@
 use mathlib.Core.Path.{_≡_, refl, sym, ap, _∙_}
 use mathlib.Core.Bool.{Bool, true, false, _&&_, cond}
 use mathlib.Core.List.{List, [], _∷_, _++_, append-assoc}
-use Prim.Native.Nat.{ℕ, zero, suc, _+_, _*_, _/_, _%_, _≤_, _<_, zero-le}
+use Prim.Native.Nat.{ℕ, zero, suc, _+_, _-_, _*_, _/_, _%_, _≤_, _<_, zero-le}
 use native.Mathlib.Nat.{add-zero}
 use native.Mathlib.Numerals.{add-one, add-two}
 use native.Mathlib.Omega.{arith}
@@ -152,7 +152,7 @@ slotSound-range x e = go (termSound x) refl
 pub slotOf-sound : (x : ℕ) → slotSound x ≡ true → SlotFormed (slotOf x) × (slotNumber (slotOf x) ≡ x)
 slotOf-sound x e = go (ltb x 1048576) refl
   where
-    go : (b : Bool) → ltb x 1048576 ≡ b → let y : Slot = cond b (aTerm x) (aVariable (x % 1048576)) in SlotFormed y × (slotNumber y ≡ x)
+    go : (b : Bool) → ltb x 1048576 ≡ b → let y : Slot = cond b (aTerm x) (aVariable (x - 1048576)) in SlotFormed y × (slotNumber y ≡ x)
     go true f = ((slotSound-range x e .0, ltb-true x 1048576 f), refl)
     go false f =
         let h = slotSound-range x e in

@@ -4,7 +4,7 @@
 -- of an operand is at the operand's own place. A missing operand is an empty part. Assumes nothing.
 use mathlib.Core.Bool.{Bool, true, false, _&&_, _||_, cond}
 use mathlib.Core.List.{List, [], _∷_}
-use Prim.Native.Nat.{ℕ, zero, suc, _+_, _*_, _/_, _%_}
+use Prim.Native.Nat.{ℕ, zero, suc, _+_, _-_, _*_, _/_, _%_}
 use lib.Dec.{eqb, leb, ltb}
 use lib.ListN.{length, getD, drop}
 use Rattle.tsparql.specs.Query.{Slot, aTerm, aVariable, Pattern}
@@ -53,13 +53,17 @@ termSound x = ltb 0 x && ltb x 1048576
 abbrev pub slotSound : ℕ → Bool
 slotSound x = termSound x || (leb 1048576 x && ltb x 1048592)
 
+-- the slot of a number: a term below 1,048,576, else a variable
 abbrev pub slotOf : ℕ → Slot
-slotOf x = cond (ltb x 1048576) (aTerm x) (aVariable (x % 1048576))
+slotOf x = cond (ltb x 1048576) (aTerm x) (aVariable (x - 1048576))
+
+-- the pattern of the first 9 bytes
+abbrev pub patternAt : List ℕ → Pattern
+patternAt s = record { subject = slotOf (bits24 s 0); predicate = slotOf (bits24 s 3); object = slotOf (bits24 s 6) }
 
 unfoldable pub readPattern : List ℕ → Read Pattern
 readPattern s =
-    require (leb 9 (length s) && slotSound (bits24 s 0) && slotSound (bits24 s 3) && slotSound (bits24 s 6))
-    (got (record { subject = slotOf (bits24 s 0); predicate = slotOf (bits24 s 3); object = slotOf (bits24 s 6) }) 9)
+    require (leb 9 (length s) && slotSound (bits24 s 0) && slotSound (bits24 s 3) && slotSound (bits24 s 6)) (got (patternAt s) 9)
 
 -- as many patterns as the first argument says
 unfoldable pub readPatterns : ℕ → List ℕ → Read (List Pattern)

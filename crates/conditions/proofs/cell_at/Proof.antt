@@ -23,7 +23,7 @@ returns c =
     let ws = c .before .before .before .args .row .now in
     let v = c .before .before .before .args .v in
     let word = getD-take rowLength ws v 0 (search needs) in
-    c .word-cell .ensures ∙ sym (cellAt-rowIn (take rowLength ws) v (search needs) ∙ ap wordCell word)
+    c .word-cell .ensures .0 ∙ sym (cellAt-rowIn (take rowLength ws) v (search needs) ∙ ap wordCell word)
 
 pub cell-at-spec : {M : Type 1} → statement M
 cell-at-spec =
