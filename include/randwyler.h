@@ -44,15 +44,15 @@ struct randwyler_refusal {
     uint64_t place;
 };
 
-/* KiB of stack that do for every query that a call accepts, however deep; tests/archive/run measures what is needed and
- * holds it to these. */
+/* KiB of stack that do for a call whatever the bytes of its query, answered or refused; tests/archive/run measures what is
+ * needed and holds it to these. */
 #define RANDWYLER_STACK_CHECK_KIB 800
 #define RANDWYLER_STACK_REWRITE_KIB 272
 #define RANDWYLER_STACK_CEILING_KIB 800
 #define RANDWYLER_STACK_EVALUATE_KIB 1728
 
-/* Tests a table, and a query of at most 5,120 bytes. Two read-only slices are lent: no byte of them, and no other memory,
- * is written. */
+/* Tests a table, and a query of at most 5,120 bytes; the refusals are 1 to 7. Two read-only slices are lent: no byte of them,
+ * and no other memory, is written. */
 struct randwyler_refusal randwyler_check(const uint8_t *table, size_t table_len, const uint8_t *query, size_t query_len);
 
 /* Why a rewriting is refused, and where, as in struct randwyler_refusal; and the length of the result, 0 on a refusal. */
@@ -63,8 +63,8 @@ struct randwyler_rewritten {
 };
 
 /* Writes a query that lists the same rows in the same order to the front of the output, with every trust bound pushed down
- * as far as it goes. Takes a query of at most 1,024 bytes; the refusals are 5, 6, 7 and 9. The result is at most 5 times as
- * long as the query: an output of 5,120 bytes always does. The query is not written, nor are the output's bytes behind the
+ * as far as it goes. Takes a query of at most 1,024 bytes; the refusals are 5, 6, 7 and 9. No result has more than 5 times
+ * the query's bytes: an output of 5,120 always does. The query is not written, nor are the output's bytes behind the
  * result; on a refusal none is. */
 struct randwyler_rewritten randwyler_rewrite(const uint8_t *query, size_t query_len, uint8_t *output, size_t output_len);
 
@@ -99,8 +99,8 @@ struct randwyler_evaluated {
     struct randwyler_tally tally;
 };
 
-/* Evaluates a query of at most 5,120 bytes on a table, in a row space of `space_len` words. A row is 17 words, and the
- * capacity is the whole rows that fit, at most 65,535; the refusals are 1 to 8. An answer leaves the rows at the front of the
+/* Evaluates a query of at most 5,120 bytes on a table, in a row space of `space_len` words. A row is 17 words; as many whole
+ * rows as fit, and never more than 65,535, are the capacity; the refusals are 1 to 8. An answer leaves the rows at the front of the
  * row space and 0 in all its later words. Refusal 8 leaves it all 0, 1 to 7 leave it unchanged. What stands in it before the
  * call has no influence. Table and query are not written. */
 struct randwyler_evaluated randwyler_evaluate(const uint8_t *table, size_t table_len, const uint8_t *query, size_t query_len,

@@ -4,7 +4,7 @@
 //! header asks of slices: they are lent for the time of the call, and one that is written overlaps no other.
 #![allow(dead_code)] // no program has to use all of it
 
-/// KiB of stack that do for every query that a call accepts; the header's figures.
+/// KiB of stack that do for a call whatever the bytes of its query; the header's figures.
 pub const STACK_CHECK_KIB: usize = 800;
 pub const STACK_REWRITE_KIB: usize = 272;
 pub const STACK_CEILING_KIB: usize = 800;
