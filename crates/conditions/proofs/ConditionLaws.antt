@@ -18,10 +18,12 @@ use Rattle.tsparql.specs.Check.{noRefusal}
 use Rattle.tsparql.proofs.ListLaws.{and-right, and-left}
 use Rattle.tsparql.proofs.ReaderSteps.{readCondition-step}
 use Rattle.tsparql.proofs.WrittenRead.{ReadsCondition, readCondition-sound}
-use Rattle.query.specs.declared.ConditionHead.{ConditionHead}
-use Rattle.query.specs.declared.ConditionHead.the-variants as C
-use Rattle.query.specs.Answers.{faultIn, faultRefusal}
-use Rattle.query.specs.Parts.{mapRead, follow, pairHead, termHead, conditionHeadRead, conditionOperands}
+use Rattle.heads.specs.declared.ConditionHead.{ConditionHead}
+use Rattle.heads.specs.declared.ConditionHead.the-variants as C
+use Rattle.heads.specs.Answers.{faultIn}
+use Rattle.query.specs.Answers.{faultRefusal}
+use Rattle.heads.specs.Parts.{pairHead, termHead, conditionHeadRead, conditionOperands}
+use Rattle.query.specs.Parts.{mapRead, follow}
 use Rattle.query.specs.Variables.{IsGot}
 use Rattle.query.proofs.ReadLaws.{by-kind, made-fault, made-by}
 use Rattle.conditions.specs.Truths.{truthIn, ConditionSound, foundCondition, conditionOf, HeadFormed, headTruth, Judges}

@@ -11,8 +11,8 @@ use Rattle.tsparql.specs.Conditions.{notTruth, andTruth, orTruth, boundTruth, s
 use Rattle.tsparql.specs.Reading.{Read, got, fault, readCondition}
 use Rattle.tsparql.specs.WellFormed.{VariableFormed}
 use Rattle.tsparql.specs.Check.{Refusal, refuse, noRefusal}
-use Rattle.query.specs.declared.ConditionHead.{ConditionHead}
-use Rattle.query.specs.declared.ConditionHead.the-variants as C
+use Rattle.heads.specs.declared.ConditionHead.{ConditionHead}
+use Rattle.heads.specs.declared.ConditionHead.the-variants as C
 use Rattle.query.specs.Answers.{faultRefusal}
 use Rattle.query.specs.Parts.{mapRead}
 use Rattle.query.specs.Variables.{IsGot}

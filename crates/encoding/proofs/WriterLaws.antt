@@ -13,7 +13,7 @@ use lib.Seq.{sets, sets-eq, take-at, drop-at, drop-drop, drop-length}
 use Rattle.tsparql.specs.Writing.{patternBytes}
 use Rattle.tsparql.specs.Reading.{slotSound}
 use Rattle.tsparql.proofs.WrittenRead.{slotOf-sound}
-use Rattle.query.specs.declared.Pattern.{Pattern}
+use Rattle.slots.specs.declared.Pattern.{Pattern}
 use Rattle.encoding.specs.Writers.{slotsBytes, soundPatternBytes, Wrote, WroteIfFits}
 use Rattle.query.proofs.ReadLaws.{part-drop}
 

@@ -8,12 +8,12 @@ use lib.Dec.{leb, ltb}
 use lib.ListN.{length, drop}
 use Rattle.tsparql.specs.Writing.{firstByte, threeBytes, patternBytes}
 use Rattle.tsparql.specs.Reading.{termSound, slotSound}
-use Rattle.query.specs.declared.Pattern.{Pattern}
-use Rattle.query.specs.declared.ConditionHead.{ConditionHead}
-use Rattle.query.specs.declared.ConditionHead.the-variants as C
-use Rattle.query.specs.declared.Head.{Head}
-use Rattle.query.specs.declared.Head.the-variants as H
-use Rattle.query.specs.Answers.{patternIn}
+use Rattle.slots.specs.declared.Pattern.{Pattern}
+use Rattle.heads.specs.declared.ConditionHead.{ConditionHead}
+use Rattle.heads.specs.declared.ConditionHead.the-variants as C
+use Rattle.heads.specs.declared.Head.{Head}
+use Rattle.heads.specs.declared.Head.the-variants as H
+use Rattle.slots.specs.Answers.{patternIn}
 
 -- ---- bytes
 

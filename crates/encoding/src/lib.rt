@@ -7,11 +7,11 @@ ghost use lib.Seq.{sets};
 ghost use Rattle.tsparql.specs.Writing.{threeBytes};
 ghost use Rattle.encoding.specs.Writers.{firstBytes, boundsBytes, headBytes, pairBytes, termBytes, conditionHeadBytes};
 ghost use Rattle.encoding.specs.Writers.{SlotsSmall, slotsBytes, soundPatternBytes, WroteIfFits};
-use query::ConditionHead;
-use query::Head;
-use query::Pattern;
-use query::slot_sound;
-use query::term_sound;
+use heads::ConditionHead;
+use heads::Head;
+use slots::Pattern;
+use slots::slot_sound;
+use slots::term_sound;
 
 // Three bytes of 24 bits from a place on.
 fn put_bits(out: &mut [u8], at: usize, x: u32)

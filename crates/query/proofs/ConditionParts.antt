@@ -13,11 +13,11 @@ use Rattle.tsparql.specs.Reading.{Read, got, fault, andThen, require, kindOf, l
 use Rattle.tsparql.proofs.ListLaws.{and-right, and-left}
 use Rattle.tsparql.proofs.ReaderSteps.{readCondition-step}
 use Rattle.tsparql.proofs.WrittenRead.{ReadsCondition, readCondition-sound}
-use Rattle.query.specs.declared.ConditionHead.{ConditionHead}
-use Rattle.query.specs.declared.ConditionHead.the-variants as C
+use Rattle.heads.specs.declared.ConditionHead.{ConditionHead}
+use Rattle.heads.specs.declared.ConditionHead.the-variants as C
+use Rattle.heads.specs.Parts.{secondOf, termOf, pairHead, termHead, connective, conditionHeadRead, conditionOperands}
 use Rattle.query.specs.Answers.{conditionHead}
-use Rattle.query.specs.Parts.{mapRead, shift, follow, secondOf, termOf, pairHead, termHead, connective, conditionHeadRead}
-use Rattle.query.specs.Parts.{conditionOperands, conditionsFrom}
+use Rattle.query.specs.Parts.{mapRead, shift, follow, conditionsFrom}
 use Rattle.query.proofs.ReadLaws.{placeOf, by-kind, cond-cases, require-cases, follow-fault, follow-got}
 
 -- the operands of a head, behind its own bytes

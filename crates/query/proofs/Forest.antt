@@ -18,10 +18,11 @@ use Rattle.tsparql.proofs.WrittenRead.{readNode-sound, PatternsFormed, Reads, r
 use Rattle.tsparql.specs.Lists.{concatMap}
 use Rattle.tsparql.specs.Writing.{patternBytes}
 use Rattle.tsparql.specs.WellFormed.{NodeFormed}
-use Rattle.query.specs.declared.Head.{Head}
-use Rattle.query.specs.declared.Head.the-variants as H
+use Rattle.heads.specs.declared.Head.{Head}
+use Rattle.heads.specs.declared.Head.the-variants as H
 use Rattle.query.specs.Answers.{nodeHead}
-use Rattle.query.specs.Parts.{conditionsFrom, nodeHeadRead, beforeOperands, ownRead}
+use Rattle.heads.specs.Parts.{nodeHeadRead}
+use Rattle.query.specs.Parts.{conditionsFrom, beforeOperands, ownRead}
 use Rattle.query.specs.Variables.{QuerySound}
 use Rattle.query.proofs.ReadLaws.{by-kind, fault-not-got}
 use Rattle.query.proofs.NodeParts.{one-condition}

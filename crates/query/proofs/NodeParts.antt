@@ -16,11 +16,11 @@ use Rattle.tsparql.specs.Writing.{patternBytes}
 use Rattle.tsparql.proofs.ListLaws.{and-left}
 use Rattle.tsparql.proofs.ReaderSteps.{readNode-step}
 use Rattle.tsparql.proofs.WrittenRead.{Reads, PatternsFormed, readPatterns-sound, ReadsNode, readNode-sound}
-use Rattle.query.specs.declared.Head.{Head}
-use Rattle.query.specs.declared.Head.the-variants as H
+use Rattle.heads.specs.declared.Head.{Head}
+use Rattle.heads.specs.declared.Head.the-variants as H
+use Rattle.heads.specs.Parts.{boundsHead, plainHead, nodeHeadRead, nodeOperands}
 use Rattle.query.specs.Answers.{nodeHead}
-use Rattle.query.specs.Parts.{mapRead, placed, shift, follow, conditionsFrom, boundsHead, plainHead, nodeHeadRead, patternsFrom}
-use Rattle.query.specs.Parts.{beforeOperands, ownRead, nodeOperands, nodesFrom}
+use Rattle.query.specs.Parts.{mapRead, placed, shift, follow, conditionsFrom, patternsFrom, beforeOperands, ownRead, nodesFrom}
 use Rattle.query.proofs.ReadLaws.{placeOf, placeOf-map, by-kind, cond-cases, require-cases, follow-fault, follow-got, fault-not-got}
 use Rattle.query.proofs.ConditionParts.{condition-inside}
 

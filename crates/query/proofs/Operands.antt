@@ -8,10 +8,11 @@ use Rattle.tsparql.specs.Query.{Node, patternSet, join, leftJoin, union, filter
 use Rattle.tsparql.specs.Reading.{Read, got, fault, readNode}
 use Rattle.tsparql.specs.WellFormed.{NodeFormed}
 use Rattle.tsparql.proofs.QuerySize.{nodeSize}
-use Rattle.query.specs.declared.Head.{Head}
-use Rattle.query.specs.declared.Head.the-variants as H
+use Rattle.heads.specs.declared.Head.{Head}
+use Rattle.heads.specs.declared.Head.the-variants as H
 use Rattle.query.specs.Answers.{nodeHead}
-use Rattle.query.specs.Parts.{ownRead, nodeOperands}
+use Rattle.heads.specs.Parts.{nodeOperands}
+use Rattle.query.specs.Parts.{ownRead}
 use Rattle.query.specs.Variables.{NodeSound, nodeOf}
 use Rattle.query.proofs.ReadLaws.{placeOf, fault-not-got}
 use Rattle.query.proofs.NodeParts.{node-inside}

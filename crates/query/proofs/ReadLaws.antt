@@ -9,7 +9,7 @@ use lib.ListN.{length, take, drop, length-drop}
 use lib.Seq.{take-all}
 use Rattle.tsparql.specs.Reading.{Read, got, fault, require}
 use Rattle.query.specs.Parts.{mapRead, shift, follow}
-use Rattle.query.specs.Answers.{faultIn}
+use Rattle.heads.specs.Answers.{faultIn}
 
 -- the list of the part of a slice from a place on
 pub part-drop : (s : List ℕ) (at : ℕ) → take (length s - at) (drop at s) ≡ drop at s

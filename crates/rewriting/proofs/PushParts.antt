@@ -16,8 +16,8 @@ use Rattle.tsparql.specs.Reading.{Read, got, fault, readNode}
 use Rattle.tsparql.specs.WellFormed.{Bytes}
 use Rattle.tsparql.proofs.QuerySize.{nodeSize}
 use Rattle.tsparql.proofs.WrittenRead.{ReadsNode, readNode-sound}
-use Rattle.query.specs.declared.Head.{Head}
-use Rattle.query.specs.declared.Head.the-variants as H
+use Rattle.heads.specs.declared.Head.{Head}
+use Rattle.heads.specs.declared.Head.the-variants as H
 use Rattle.encoding.specs.Writers.{boundsBytes, Wrote, WroteIfFits}
 use Rattle.query.specs.Answers.{nodeHead}
 use Rattle.query.specs.Variables.{NodeSound, nodeOf}

@@ -13,8 +13,8 @@ use Rattle.tsparql.specs.WellFormed.{Bytes}
 use Rattle.tsparql.specs.Rewrite.{rewriteLimit}
 use Rattle.tsparql.proofs.QuerySize.{nodeSize}
 use Rattle.tsparql.proofs.PushQuery.{push-size-≤}
-use Rattle.query.specs.declared.Head.{Head}
-use Rattle.query.specs.Parts.{nodeOperands}
+use Rattle.heads.specs.declared.Head.{Head}
+use Rattle.heads.specs.Parts.{nodeOperands}
 use Rattle.query.specs.Variables.{NodeSound, nodeOf}
 use Rattle.query.proofs.ReadLaws.{part-drop, fault-not-got}
 use Rattle.query.proofs.Forest.{operandsIn}

@@ -13,7 +13,7 @@ use Rattle.tsparql.specs.WellFormed.{NodeFormed}
 use Rattle.tsparql.specs.Rewrite.{rewriteLimit}
 use Rattle.tsparql.proofs.QuerySize.{nodeSize}
 use Rattle.tsparql.proofs.PushQuery.{BoundFormed, trustFloor-formed, meet-formed}
-use Rattle.query.specs.declared.Head.{Head}
+use Rattle.heads.specs.declared.Head.{Head}
 use Rattle.query.specs.Answers.{nodeHead}
 use Rattle.query.specs.Variables.{NodeSound, nodeOf}
 use Rattle.encoding.specs.Writers.{Wrote}

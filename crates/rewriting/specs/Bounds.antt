@@ -5,8 +5,8 @@ use Prim.Native.Nat.{ℕ, _+_, _*_}
 use lib.Dec.{ltb}
 use Rattle.tsparql.specs.Push.{TrustBound, noBound, between, meet, trustFloor}
 use Rattle.tsparql.specs.Writing.{firstByte, threeBytes}
-use Rattle.query.specs.declared.Head.{Head}
-use Rattle.query.specs.declared.Head.the-variants as H
+use Rattle.heads.specs.declared.Head.{Head}
+use Rattle.heads.specs.declared.Head.the-variants as H
 use Rattle.rewriting.specs.declared.Bound.{Bound}
 use Rattle.rewriting.specs.declared.Bound.the-variants as B
 

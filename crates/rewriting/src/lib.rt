@@ -16,10 +16,10 @@ ghost use Rattle.rewriting.specs.Bounds.{wrapped, stays, wrapBytes, ownP
 ghost use Rattle.rewriting.specs.Answers.{pushedIn, placeIn, placedBehind, Pushable, Pushes, rewrittenIn, answerOf};
 use bytes::copy;
 use encoding::write_head;
-use query::Head;
-use query::NodeRead;
-use query::node_fault;
-use query::node_operands;
+use heads::Head;
+use heads::NodeRead;
+use heads::node_fault;
+use heads::node_operands;
 use query::read_own;
 use scope::QueryAnswer;
 use scope::check_query;

@@ -10,7 +10,7 @@ use Rattle.tsparql.specs.Query.{Node}
 use Rattle.tsparql.specs.Reading.{Read, got, fault, readNode, readQuery, queryNode}
 use Rattle.tsparql.specs.Check.{refuse, variablesRefusal, queryRefusal}
 use Rattle.query.specs.Answers.{nodeHead}
-use Rattle.query.specs.declared.Head.{Head}
+use Rattle.heads.specs.declared.Head.{Head}
 use Rattle.query.specs.Parts.{mapRead}
 use Rattle.query.specs.Variables.{QuerySound}
 use Rattle.query.proofs.ReadLaws.{fault-not-got}

@@ -18,9 +18,10 @@ use Rattle.tsparql.specs.Check.{variablesOf, refuse, noRefusal, clashes, firstC
 use Rattle.tsparql.proofs.QuerySize.{nodeSize, nodeSize-positive}
 use Rattle.tsparql.proofs.WrittenRead.{ReadsNode, readNode-sound}
 use Rattle.query.specs.Answers.{nodeHead}
-use Rattle.query.specs.declared.Head.{Head}
-use Rattle.query.specs.declared.Head.the-variants as H
-use Rattle.query.specs.Parts.{placed, nodeHeadRead}
+use Rattle.heads.specs.declared.Head.{Head}
+use Rattle.heads.specs.declared.Head.the-variants as H
+use Rattle.heads.specs.Parts.{nodeHeadRead}
+use Rattle.query.specs.Parts.{placed}
 use Rattle.query.specs.Variables.{PatternsSound, NodeSound, nodeOf, nextNode, QuerySound}
 use Rattle.query.proofs.ReadLaws.{fault-not-got}
 use Rattle.query.proofs.Forest.{ReadsAll, readsAll-inside, operandsIn, operandsAt, operandsAt-positive, PatternsRead, NodeFound}

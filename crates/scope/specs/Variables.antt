@@ -11,9 +11,9 @@ use Rattle.tsparql.specs.Query.{Node, patternSet, join, leftJoin, union, filter
 use Rattle.tsparql.specs.Reading.{Read, got, fault, readPatterns, queryNode}
 use Rattle.tsparql.specs.Check.{Refusal, refuse, noRefusal, passes, queryRefusal, variablesOf, patternVariables, occurrences, clashing}
 use Rattle.tsparql.specs.Check.{projectedVariable, trustProjections}
-use Rattle.query.specs.declared.Head.{Head}
-use Rattle.query.specs.declared.Head.the-variants as H
-use Rattle.query.specs.Parts.{nodeHeadRead}
+use Rattle.heads.specs.declared.Head.{Head}
+use Rattle.heads.specs.declared.Head.the-variants as H
+use Rattle.heads.specs.Parts.{nodeHeadRead}
 use Rattle.query.specs.Variables.{foundPatterns}
 use Rattle.scope.specs.declared.Clash.{Clash}
 use Rattle.scope.specs.declared.Clash.the-variants as C

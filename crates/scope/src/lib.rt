@@ -4,19 +4,19 @@ ghost use Prim.Native.Nat.{_≤_};
 ghost use lib.ListN.{length};
 ghost use Rattle.tsparql.specs.Reading.{slotOf, queryNode};
 ghost use Rattle.tsparql.specs.Check.{slotVariables, variablesOf, variablesRefusal};
-ghost use Rattle.query.specs.Answers.{patternIn};
+ghost use Rattle.slots.specs.Answers.{patternIn};
 ghost use Rattle.query.specs.Variables.{PatternsSound, NodeSound, nodeOf, QuerySound};
 ghost use Rattle.scope.specs.Variables.{has, patternsOf, ownUses, projectedIn, clashesWith, clashAt, clashIn, Checked};
-use query::Head;
-use query::NodeRead;
-use query::Pattern;
-use query::PatternRead;
+use heads::Head;
+use heads::NodeRead;
+use heads::node_fault;
+use heads::read_head;
 use query::Place;
 use query::next_node;
-use query::node_fault;
-use query::read_head;
 use query::read_node;
-use query::read_pattern;
+use slots::Pattern;
+use slots::PatternRead;
+use slots::read_pattern;
 
 // A clash of variables, at a project trust node.
 pub enum Clash {

@@ -13,14 +13,15 @@ use Rattle.tsparql.specs.Values.{Cell}
 use Rattle.tsparql.specs.Evaluate.{rowLength}
 use Rattle.tsparql.specs.Conditions.{holds, truthOn}
 use Rattle.tsparql.specs.Reading.{got, readCondition}
-use Rattle.query.specs.declared.ConditionHead.{ConditionHead}
-use Rattle.query.specs.Answers.{conditionFound}
-use Rattle.query.specs.Parts.{mapRead, conditionHeadRead, conditionOperands}
+use Rattle.heads.specs.declared.ConditionHead.{ConditionHead}
+use Rattle.heads.specs.Answers.{conditionFound}
+use Rattle.heads.specs.Parts.{conditionHeadRead, conditionOperands}
+use Rattle.query.specs.Parts.{mapRead}
 use Rattle.query.proofs.ReadLaws.{on-part, placeOf, place-part, faultIn-≤}
 use Rattle.query.proofs.ConditionParts.{condition-inside, condition-head-inside}
-use Rattle.query.proofs.condition_fault.Reads as condition-fault-reads
-use Rattle.query.proofs.condition_operands.Reads as condition-operands-reads
-use Rattle.query.proofs.read_condition_head.Reads as read-condition-head-reads
+use Rattle.heads.proofs.condition_fault.Reads as condition-fault-reads
+use Rattle.heads.proofs.condition_operands.Reads as condition-operands-reads
+use Rattle.heads.proofs.read_condition_head.Reads as read-condition-head-reads
 use Rattle.rows.specs.RowWords.{rowAt}
 use Rattle.conditions.specs.Truths.{truthIn, HeadFormed, headTruth, judgedFound}
 use Rattle.conditions.proofs.ConditionLaws.{judgedAt, head-fault, head-formed, none-judged, first-fault, one-judged, second-fault}

@@ -3,8 +3,10 @@
 use mathlib.Core.Path.{_≡_, sym, ap, _∙_}
 use native.Mathlib.Omega.{arith}
 use Rattle.tsparql.specs.Reading.{got, fault, readCondition}
-use Rattle.query.specs.Answers.{conditionHead, conditionFound, placeFound, faultIn}
-use Rattle.query.specs.Parts.{mapRead, conditionHeadRead, conditionsFrom}
+use Rattle.heads.specs.Answers.{conditionFound, faultIn}
+use Rattle.query.specs.Answers.{conditionHead, placeFound}
+use Rattle.heads.specs.Parts.{conditionHeadRead}
+use Rattle.query.specs.Parts.{mapRead, conditionsFrom}
 use Rattle.query.proofs.ReadLaws.{part-drop, placeOf, faultIn-≤, head-fault, operands-fault, operands-got, place-part}
 use Rattle.query.proofs.ConditionParts.{conditionsAfter, condition-parts, condition-inside}
 use Rattle.query.proofs.ConditionParts.{condition-head-inside, conditions-fault, conditions-next}
@@ -19,10 +21,10 @@ use Rattle.query.proofs.+read_condition+read_conditions.Lts-read_condit
 use Rattle.query.proofs.read_conditions.Reads as read-conditions
 use Rattle.query.proofs.read_conditions.Kinds as read-conditions-kinds
 use Rattle.query.proofs.+read_condition+read_conditions.Lts-read_conditions as read-conditions-lts
-use Rattle.query.proofs.condition_fault.Reads as condition-fault-reads
-use Rattle.query.proofs.condition_operands.Reads as condition-operands-reads
+use Rattle.heads.proofs.condition_fault.Reads as condition-fault-reads
+use Rattle.heads.proofs.condition_operands.Reads as condition-operands-reads
 use Rattle.query.proofs.place_fault.Reads as place-fault-reads
-use Rattle.query.proofs.read_condition_head.Reads as read-condition-head-reads
+use Rattle.heads.proofs.read_condition_head.Reads as read-condition-head-reads
 use Rattle.query.proofs.+read_condition+read_conditions.{statement}
 use Rattle.query.proofs.+read_condition+read_conditions.Tie.{close}
 

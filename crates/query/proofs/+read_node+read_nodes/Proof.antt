@@ -3,7 +3,8 @@
 use mathlib.Core.Path.{_≡_, sym, ap, _∙_}
 use native.Mathlib.Omega.{arith}
 use Rattle.tsparql.specs.Reading.{got, fault, readNode}
-use Rattle.query.specs.Answers.{nodeHead, nodeFound, placeFound, faultIn}
+use Rattle.heads.specs.Answers.{nodeFound, faultIn}
+use Rattle.query.specs.Answers.{nodeHead, placeFound}
 use Rattle.query.specs.Parts.{mapRead, ownRead, nodesFrom}
 use Rattle.query.proofs.ReadLaws.{part-drop, placeOf, faultIn-≤, head-fault, operands-fault, operands-got, place-part}
 use Rattle.query.proofs.NodeParts.{operandsFrom, node-parts, node-inside, own-inside, nodes-fault, nodes-next}
@@ -19,8 +20,8 @@ use Rattle.query.proofs.+read_node+read_nodes.Lts-read_node as read-nod
 use Rattle.query.proofs.read_nodes.Reads as read-nodes
 use Rattle.query.proofs.read_nodes.Kinds as read-nodes-kinds
 use Rattle.query.proofs.+read_node+read_nodes.Lts-read_nodes as read-nodes-lts
-use Rattle.query.proofs.node_fault.Reads as node-fault-reads
-use Rattle.query.proofs.node_operands.Reads as node-operands-reads
+use Rattle.heads.proofs.node_fault.Reads as node-fault-reads
+use Rattle.heads.proofs.node_operands.Reads as node-operands-reads
 use Rattle.query.proofs.place_fault.Reads as place-fault-reads
 use Rattle.query.proofs.read_own.Reads as read-own-reads
 use Rattle.query.proofs.+read_node+read_nodes.{statement}

@@ -1,7 +1,7 @@
 -- The place of the node's own part. Assumes nothing.
 use mathlib.Core.Path.{sym, ap, _∙_}
 use Rattle.tsparql.specs.Reading.{fault}
-use Rattle.query.specs.Answers.{nodeFound, faultIn}
+use Rattle.heads.specs.Answers.{nodeFound, faultIn}
 use Rattle.query.specs.Parts.{placed}
 use borrow.Author.Needs.{needs}
 use Rattle.query.proofs.next_node.Statement.{statement}

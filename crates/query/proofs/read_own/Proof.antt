@@ -1,8 +1,10 @@
 -- By the head, and what stands before its operands. Assumes nothing.
 use mathlib.Core.Path.{_≡_, sym, ap, _∙_}
 use Rattle.tsparql.specs.Reading.{got, fault}
-use Rattle.query.specs.Answers.{nodeFound, placeFound, faultIn}
-use Rattle.query.specs.Parts.{nodeHeadRead, beforeOperands}
+use Rattle.heads.specs.Answers.{nodeFound, faultIn}
+use Rattle.query.specs.Answers.{placeFound}
+use Rattle.heads.specs.Parts.{nodeHeadRead}
+use Rattle.query.specs.Parts.{beforeOperands}
 use Rattle.query.proofs.NodeParts.{node-head-inside}
 use borrow.Author.Needs.{needs}
 use Rattle.query.proofs.read_own.Statement.{statement}

@@ -4,7 +4,7 @@ use Prim.Native.Nat.{_+_, _≤_}
 use native.Mathlib.Omega.{arith}
 use lib.ListN.{length, drop}
 use Rattle.tsparql.specs.Reading.{readPattern}
-use Rattle.query.specs.Answers.{patternFound}
+use Rattle.slots.specs.Answers.{patternFound}
 use Rattle.query.specs.Parts.{patternsFrom}
 use Rattle.query.proofs.ReadLaws.{on-part, placeOf}
 use Rattle.query.proofs.PatternParts.{patterns-none, patterns-next, patterns-fault, pattern-part}

@@ -13,15 +13,15 @@ use Rattle.tsparql.specs.Push.{TrustBound, push}
 use Rattle.tsparql.specs.Writing.{nodeBytes}
 use Rattle.tsparql.specs.WellFormed.{Bytes}
 use Rattle.tsparql.proofs.QuerySize.{nodeSize}
-use Rattle.query.specs.declared.Head.{Head}
-use Rattle.query.specs.Answers.{nodeFound}
-use Rattle.query.specs.Parts.{nodeOperands}
+use Rattle.heads.specs.declared.Head.{Head}
+use Rattle.heads.specs.Answers.{nodeFound}
+use Rattle.heads.specs.Parts.{nodeOperands}
 use Rattle.query.specs.Variables.{nodeOf}
 use Rattle.encoding.specs.Writers.{Wrote}
 use Rattle.query.proofs.Operands.{Own, TwoOperands, own-found, own-sound, no-operand, one-operand, first-sound, second-operand}
 use Rattle.encoding.proofs.WriterLaws.{wrote-long}
-use Rattle.query.proofs.node_fault.Reads as node-fault-reads
-use Rattle.query.proofs.node_operands.Reads as node-operands-reads
+use Rattle.heads.proofs.node_fault.Reads as node-fault-reads
+use Rattle.heads.proofs.node_operands.Reads as node-operands-reads
 use Rattle.query.proofs.read_own.Reads as read-own-reads
 use Rattle.rewriting.specs.declared.Pushed.the-variants as P
 use Rattle.rewriting.specs.Bounds.{boundIn, firstBound, secondBound, ownPush, ownSize}

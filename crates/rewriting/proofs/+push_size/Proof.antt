@@ -10,13 +10,13 @@ use lib.ListN.{length, drop}
 use Rattle.tsparql.specs.Push.{TrustBound, push}
 use Rattle.tsparql.specs.Rewrite.{rewriteLimit}
 use Rattle.tsparql.proofs.QuerySize.{nodeSize}
-use Rattle.query.specs.declared.Head.{Head}
-use Rattle.query.specs.Answers.{nodeFound}
-use Rattle.query.specs.Parts.{nodeOperands}
+use Rattle.heads.specs.declared.Head.{Head}
+use Rattle.heads.specs.Answers.{nodeFound}
+use Rattle.heads.specs.Parts.{nodeOperands}
 use Rattle.query.specs.Variables.{NodeSound, nodeOf}
 use Rattle.query.proofs.Operands.{Own, TwoOperands, own-found, own-sound, no-operand, one-operand, first-sound, second-operand}
-use Rattle.query.proofs.node_fault.Reads as node-fault-reads
-use Rattle.query.proofs.node_operands.Reads as node-operands-reads
+use Rattle.heads.proofs.node_fault.Reads as node-fault-reads
+use Rattle.heads.proofs.node_operands.Reads as node-operands-reads
 use Rattle.query.proofs.read_own.Reads as read-own-reads
 use Rattle.rewriting.specs.declared.Pushed.the-variants as P
 use Rattle.rewriting.specs.Bounds.{boundIn, firstBound, ownSize}

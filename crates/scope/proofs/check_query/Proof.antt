@@ -3,7 +3,7 @@ use mathlib.Core.Path.{_≡_, sym, ap, _∙_}
 use native.Mathlib.Omega.{arith}
 use Rattle.tsparql.specs.Query.{Node}
 use Rattle.tsparql.specs.Reading.{got, fault, readNode}
-use Rattle.query.specs.Answers.{nodeFound, faultIn}
+use Rattle.heads.specs.Answers.{nodeFound, faultIn}
 use Rattle.scope.specs.declared.Clash.the-variants as C
 use Rattle.scope.specs.Variables.{clashIn}
 use Rattle.scope.proofs.Checks.{head-node, long-checked, fault-checked, surplus-checked, whole-sound, whole-checked}

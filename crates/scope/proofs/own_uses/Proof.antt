@@ -1,10 +1,10 @@
 -- By the head of the node. Assumes nothing.
 use mathlib.Core.Path.{_≡_, sym, ap, _∙_}
 use borrow.Author.Tests.{eq-eqb, ne-eqb}
-use Rattle.query.specs.Answers.{nodeFound}
+use Rattle.heads.specs.Answers.{nodeFound}
 use Rattle.query.proofs.NodeParts.{node-head-inside}
 use Rattle.scope.proofs.Walk.{headUses, HeadOfNode, head-of-node, head-sound}
-use Rattle.query.specs.declared.Head.{Head}
+use Rattle.heads.specs.declared.Head.{Head}
 use Rattle.query.specs.Variables.{nodeOf}
 use Rattle.scope.specs.Variables.{ownUses}
 use borrow.Author.Needs.{needs}

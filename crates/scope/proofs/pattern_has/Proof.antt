@@ -1,6 +1,6 @@
 -- Slot by slot. Assumes nothing.
 use mathlib.Core.Path.{sym, _∙_}
-use Rattle.query.specs.Answers.{patternIn}
+use Rattle.slots.specs.Answers.{patternIn}
 use Rattle.scope.proofs.Patterns.{pattern-slots}
 use borrow.Author.Needs.{needs}
 use Rattle.scope.proofs.pattern_has.Statement.{statement}

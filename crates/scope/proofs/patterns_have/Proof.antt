@@ -2,7 +2,7 @@
 use mathlib.Core.Path.{_≡_, refl, sym, ap, _∙_}
 use native.Mathlib.Omega.{arith}
 use Rattle.tsparql.specs.Reading.{readPattern}
-use Rattle.query.specs.Answers.{patternFound}
+use Rattle.slots.specs.Answers.{patternFound}
 use Rattle.query.proofs.ReadLaws.{on-part, placeOf}
 use Rattle.query.proofs.PatternParts.{pattern-part}
 use borrow.Author.Needs.{needs}

@@ -1,8 +1,8 @@
 -- By the head. Assumes nothing.
 use mathlib.Core.Path.{_≡_, sym, ap, _∙_}
-use Rattle.query.specs.Answers.{nodeFound}
+use Rattle.heads.specs.Answers.{nodeFound}
 use Rattle.scope.specs.Variables.{headVariable, foundVariable, projectedIn}
-use Rattle.query.specs.declared.Head.{Head}
+use Rattle.heads.specs.declared.Head.{Head}
 use borrow.Author.Needs.{needs}
 use Rattle.scope.proofs.projected.Statement.{statement}
 use Rattle.scope.proofs.projected.Tie as tie

@@ -1,0 +1,2 @@
+-- What the readers of patterns answer, in the definitions' terms.
+pub mod Answers
