@@ -1,6 +1,9 @@
 -- The answers of the readers of patterns, in the definitions' terms. Assumes nothing.
+use mathlib.Core.Bool.{Bool, _&&_}
+use mathlib.Core.List.{List}
+use Prim.Native.Nat.{ℕ}
 use Rattle.tsparql.specs.Query as Q
-use Rattle.tsparql.specs.Reading.{Read, got, fault, slotOf}
+use Rattle.tsparql.specs.Reading.{Read, got, fault, bits24, slotSound, slotOf}
 use Rattle.slots.specs.declared.Pattern.{Pattern}
 use Rattle.slots.specs.declared.PatternRead.{PatternRead}
 use Rattle.slots.specs.declared.PatternRead.the-variants as P
@@ -8,6 +11,14 @@ use Rattle.slots.specs.declared.PatternRead.the-variants as P
 -- a pattern by its slots' numbers
 abbrev pub patternIn : Pattern → Q.Pattern
 patternIn p = record { subject = slotOf (p .subject); predicate = slotOf (p .predicate); object = slotOf (p .object) }
+
+-- the slots of a part's first 9 bytes
+abbrev pub slotsAt : List ℕ → Pattern
+slotsAt s = record { subject = bits24 s 0; predicate = bits24 s 3; object = bits24 s 6 }
+
+-- each slot is a term or a variable
+abbrev pub slotsSound : Pattern → Bool
+slotsSound p = slotSound (p .subject) && slotSound (p .predicate) && slotSound (p .object)
 
 -- the pattern and the next place, or the fault
 abbrev pub patternFound : PatternRead → Read Q.Pattern

@@ -3,7 +3,7 @@ ghost use mathlib.Core.Path.{_≡_};
 ghost use Prim.Native.Nat.{_+_, _≤_, _<_};
 ghost use lib.ListN.{length};
 ghost use Rattle.tsparql.specs.Reading.{bits24, termSound, slotSound, readPattern};
-ghost use Rattle.slots.specs.Answers.{patternFound};
+ghost use Rattle.slots.specs.Answers.{slotsAt, slotsSound, patternFound};
 
 // A pattern by its slots' 24 bits: below 1,048,576 a term, else 1,048,576 and a variable.
 pub struct Pattern {
@@ -52,6 +52,33 @@ pub fn slot_sound(x: u32) -> bool
     if 1048576 <= x { x < 1048592 } else { false }
 }
 
+// The pattern of a part's first 9 bytes, whatever they hold.
+pub fn pattern_at(q: &[u8]) -> Pattern
+    requires { ⌜ 9 ≤ length (now q) ⌝ }
+    ensures { λ r. ⌜ r ≡ slotsAt (now (q .entry)) ⌝ }
+{
+    let subject = bits_at(q, 0);
+    let predicate = bits_at(q, 3);
+    let object = bits_at(q, 6);
+    Pattern {
+        subject,
+        predicate,
+        object,
+    }
+}
+
+// Each slot is a term or a variable.
+pub fn pattern_sound(p: Pattern) -> bool
+    ensures { λ r. ⌜ r ≡ slotsSound p ⌝ }
+{
+    if slot_sound(p.subject) {
+        if slot_sound(p.predicate) {
+            return slot_sound(p.object);
+        }
+    }
+    false
+}
+
 // The pattern that a part starts with.
 pub fn read_pattern(q: &[u8]) -> PatternRead
     ensures { λ r. ⌜ patternFound r ≡ readPattern (now (q .entry)) ⌝ }
@@ -59,22 +86,10 @@ pub fn read_pattern(q: &[u8]) -> PatternRead
     if q.len() < 9 {
         return PatternRead::Fault(0);
     }
-    let s = bits_at(q, 0);
-    let p = bits_at(q, 3);
-    let o = bits_at(q, 6);
-    if slot_sound(s) {
-        if slot_sound(p) {
-            if slot_sound(o) {
-                return PatternRead::Found(
-                    Pattern {
-                        subject: s,
-                        predicate: p,
-                        object: o,
-                    },
-                    9,
-                );
-            }
-        }
+    let p = pattern_at(q);
+    if pattern_sound(p) {
+        PatternRead::Found(p, 9)
+    } else {
+        PatternRead::Fault(0)
     }
-    PatternRead::Fault(0)
 }

@@ -1,10 +1,12 @@
--- A pattern, test by test: nine bytes and three sound slots. Assumes nothing.
-use borrow.Author.Tests.{le-leb, lt-leb}
-use mathlib.Core.Path.{sym, _∙_}
+-- A pattern is nine bytes with three sound slots. Assumes nothing.
+use mathlib.Core.Path.{_≡_, sym, ap, _∙_}
+use mathlib.Core.Bool.{Bool}
 use native.Mathlib.Omega.{arith}
+use borrow.Author.Tests.{le-leb, lt-leb}
+use borrow.Author.Needs.{needs}
 use lib.ListN.{length}
 use Rattle.tsparql.specs.Reading.{readPattern}
-use borrow.Author.Needs.{needs}
+use Rattle.slots.specs.Answers.{slotsAt, slotsSound}
 use Rattle.slots.proofs.read_pattern.Statement.{statement}
 use Rattle.slots.proofs.read_pattern.Tie as tie
 
@@ -12,89 +14,27 @@ returns : tie.Need-returns
 unfolding readPattern
 returns c = rw (lt-leb 9 (length (c .before .before .args .q .now)) (c .if1 .taken))
 
-bits-at-requires : tie.Need-bits-at-requires
-bits-at-requires c κs = search needs
+pattern-at-requires : tie.Need-pattern-at-requires
+pattern-at-requires c κs = search needs
 
-bits-at-requires-2 : tie.Need-bits-at-requires-2
-bits-at-requires-2 c κs = search needs
+pattern-sound-requires : tie.Need-pattern-sound-requires
+pattern-sound-requires c κs = search needs
 
-bits-at-requires-3 : tie.Need-bits-at-requires-3
-bits-at-requires-3 c κs = search needs
-
-slot-sound-requires : tie.Need-slot-sound-requires
-slot-sound-requires c κs = search needs
-
-slot-sound-requires-2 : tie.Need-slot-sound-requires-2
-slot-sound-requires-2 c κs = search needs
-
-slot-sound-requires-3 : tie.Need-slot-sound-requires-3
-slot-sound-requires-3 c κs = search needs
+-- the test of the slots that were read
+tested : (c : tie.After-pattern-sound) → slotsSound (slotsAt (c .before .before .before .before .args .q .now)) ≡ c .pattern-sound .result
+tested c = sym (c .pattern-sound .ensures ∙ ap slotsSound (c .before .pattern-at .ensures))
 
 returns-2 : tie.Need-returns-2
 unfolding readPattern
 returns-2 c =
-    let s = c .before .before .before .before .before .before .before .before .before .before .before .args .q .now in
-    rw (
-      le-leb 9 (length s) (omega arith),
-      ← c .before .before .before .before .before .before .before .before .bits-at .ensures,
-      ← c .before .before .before .before .before .before .before .bits-at2 .ensures,
-      ← c .before .before .before .before .before .before .bits-at3 .ensures,
-      sym (c .before .before .before .before .before .slot-sound .ensures) ∙ c .before .before .before .before .if2 .taken,
-      sym (c .before .before .before .slot-sound2 .ensures) ∙ c .before .before .if3 .taken,
-      sym (c .before .slot-sound3 .ensures) ∙ c .if4 .taken,
-    )
+    let s = c .before .before .before .before .before .args .q .now in
+    rw (le-leb 9 (length s) (omega arith), c .before .before .pattern-at .ensures, tested (c .before) ∙ c .if2 .taken)
 
 returns-3 : tie.Need-returns-3
 unfolding readPattern
 returns-3 c =
-    let s = c .before .before .before .before .before .before .before .before .before .before .before .args .q .now in
-    rw (
-      le-leb 9 (length s) (omega arith),
-      ← c .before .before .before .before .before .before .before .before .bits-at .ensures,
-      ← c .before .before .before .before .before .before .before .bits-at2 .ensures,
-      ← c .before .before .before .before .before .before .bits-at3 .ensures,
-      sym (c .before .before .before .before .before .slot-sound .ensures) ∙ c .before .before .before .before .if2 .taken,
-      sym (c .before .before .before .slot-sound2 .ensures) ∙ c .before .before .if3 .taken,
-      sym (c .before .slot-sound3 .ensures) ∙ c .if4 .left,
-    )
-
-returns-4 : tie.Need-returns-4
-unfolding readPattern
-returns-4 c =
-    let s = c .before .before .before .before .before .before .before .before .before .args .q .now in
-    rw (
-      le-leb 9 (length s) (omega arith),
-      ← c .before .before .before .before .before .before .bits-at .ensures,
-      ← c .before .before .before .before .before .bits-at2 .ensures,
-      ← c .before .before .before .before .bits-at3 .ensures,
-      sym (c .before .before .before .slot-sound .ensures) ∙ c .before .before .if2 .taken,
-      sym (c .before .slot-sound2 .ensures) ∙ c .if3 .left,
-    )
-
-returns-5 : tie.Need-returns-5
-unfolding readPattern
-returns-5 c =
-    let s = c .before .before .before .before .before .before .before .args .q .now in
-    rw (
-      le-leb 9 (length s) (omega arith),
-      ← c .before .before .before .before .bits-at .ensures,
-      ← c .before .before .before .bits-at2 .ensures,
-      ← c .before .before .bits-at3 .ensures,
-      sym (c .before .slot-sound .ensures) ∙ c .if2 .left,
-    )
+    let s = c .before .before .before .before .before .args .q .now in
+    rw (le-leb 9 (length s) (omega arith), tested (c .before) ∙ c .if2 .left)
 
 pub read-pattern-spec : {M : Type 1} → statement M
-read-pattern-spec =
-    tie.close
-    (tie.spec
-    returns
-    bits-at-requires
-    bits-at-requires-2
-    bits-at-requires-3
-    slot-sound-requires
-    slot-sound-requires-2
-    slot-sound-requires-3
-    returns-2
-    returns-3
-    returns-4
-    returns-5)
+read-pattern-spec = tie.close (tie.spec returns pattern-at-requires pattern-sound-requires returns-2 returns-3)
