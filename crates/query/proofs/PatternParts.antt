@@ -1,10 +1,11 @@
 -- Patterns one behind the other, from a place on: the next one faults, or leaves those behind it. Assumes nothing.
-use mathlib.Core.Path.{_≡_, sym, ap}
+use mathlib.Core.Path.{_≡_, refl, sym, ap}
 use mathlib.Core.Bool.{Bool, true, false, _&&_}
 use mathlib.Core.List.{List, _∷_}
 use Prim.Native.Nat.{ℕ, zero, suc, _+_, _-_, _≤_}
 use native.Mathlib.Nat.{add-zero, zero-add, add-assoc}
 use native.Mathlib.Omega.{arith}
+use borrow.Author.Tests.{leb-true}
 use lib.Dec.{leb}
 use lib.ListN.{length, take, drop, length-drop}
 use lib.Seq.{drop-drop}
@@ -14,6 +15,7 @@ use Rattle.tsparql.proofs.WrittenRead.{readPattern-sound, Reads}
 use Rattle.tsparql.specs.WellFormed.{PatternFormed}
 use Rattle.tsparql.specs.Writing.{patternBytes}
 use Rattle.query.specs.Parts.{placed, shift, patternsFrom}
+use Rattle.query.specs.Variables.{IsGot}
 use Rattle.query.proofs.ReadLaws.{part-drop, placeOf}
 
 pub patterns-none : (s : List ℕ) (at n : ℕ) → n ≡ 0 → patternsFrom n at s ≡ got tt at
@@ -47,6 +49,23 @@ pub patterns-fault : (s : List ℕ) (at n p : ℕ) → 1 ≤ n → readPattern (
 unfolding readPatterns
 patterns-fault s at zero p l e = absurd (omega arith)
 patterns-fault s at (suc n) p l e = rw (e, pattern-fault (drop at s) p e, add-zero at)
+
+-- the first of patterns that are there: its bytes are, and it is what they hold
+pub pattern-there : (n : ℕ) (s : List ℕ) → 1 ≤ n → IsGot (readPatterns n s) → (9 ≤ length s) × (readPattern s ≡ got (patternAt s) 9)
+unfolding readPatterns readPattern
+pattern-there zero s some sound = absurd (omega arith)
+pattern-there (suc n) s some sound =
+    go (leb 9 (length s)) (slotSound (bits24 s 0)) (slotSound (bits24 s 3)) (slotSound (bits24 s 6)) refl sound
+  where
+    go : (b x y z : Bool) → leb 9 (length s) ≡ b
+        → IsGot (andThen 0 (require (b && x && y && z) (got (patternAt s) 9))
+            (λ p at. andThen at (readPatterns n (drop at s)) (λ ps next. got (p ∷ ps) next)))
+        → (9 ≤ length s) × (require (b && x && y && z) (got (patternAt s) 9) ≡ got (patternAt s) 9)
+    go true true true true e h = (leb-true 9 (length s) e, refl)
+    go true true true false e h = absurd h
+    go true true false z e h = absurd h
+    go true false y z e h = absurd h
+    go false x y z e h = absurd h
 
 pub pattern-inside : (s : List ℕ) → placeOf (readPattern s) ≤ length s
 pattern-inside s = go (readPattern s) (readPattern-sound s)

@@ -75,14 +75,6 @@ module _ {v : ℕ} {s : List ℕ} {n at left p : ℕ} (h : HaveLeft v s n at lef
   unfolding readPatterns
   have-none e = h .same ∙ rw e
 
-  pub have-fault : {k : ℕ} → 1 ≤ left → readPattern (drop p s) ≡ fault k → ⊥
-  unfolding readPatterns
-  have-fault l e = no left l e (h .sound)
-    where
-      no : (left : ℕ) {k : ℕ} → 1 ≤ left → readPattern (drop p s) ≡ fault k → PatternsSound left p s → ⊥
-      no zero l e g = omega arith
-      no (suc m) l e g = rw e at g
-
   pub have-here : {x : Pattern} {k : ℕ} → 1 ≤ left → readPattern (drop p s) ≡ got x k → has v (variablesOf x) ≡ true
       → has v (patternsOf n at s) ≡ true
   have-here {x} {k} l e t =

@@ -15,8 +15,10 @@ use query::Place;
 use query::next_node;
 use query::read_node;
 use slots::Pattern;
-use slots::PatternRead;
-use slots::read_pattern;
+use slots::pattern_at;
+
+// The bytes of a pattern.
+const PATTERN_BYTES: usize = 9;
 
 // A clash of variables, at a project trust node.
 pub enum Clash {
@@ -63,14 +65,11 @@ fn patterns_have(q: &[u8], at: usize, n: u8, v: u8) -> bool
     let mut p = at;
     let mut left = n;
     while 0 < left {
-        let r = read_pattern(&q[p..]);
-        let PatternRead::Found(x, k) = r else {
-            return false;
-        };
+        let x = pattern_at(&q[p..]);
         if pattern_has(x, v) {
             return true;
         }
-        p += k;
+        p += PATTERN_BYTES;
         left -= 1;
     }
     false

@@ -68,7 +68,7 @@ pub fn pattern_at(q: &[u8]) -> Pattern
 }
 
 // Each slot is a term or a variable.
-pub fn pattern_sound(p: Pattern) -> bool
+fn pattern_sound(p: Pattern) -> bool
     ensures { λ r. ⌜ r ≡ slotsSound p ⌝ }
 {
     if slot_sound(p.subject) {

@@ -1,14 +1,14 @@
 -- The invariant: the patterns left have the variable exactly if all have it. The measure is how many are left. Assumes nothing.
 use mathlib.Core.Path.{_≡_, refl, sym, ap, _∙_}
-use native.Mathlib.Omega.{arith}
-use Rattle.tsparql.specs.Reading.{readPattern}
-use Rattle.slots.specs.Answers.{patternFound}
-use Rattle.query.proofs.ReadLaws.{on-part, placeOf}
-use Rattle.query.proofs.PatternParts.{pattern-part}
-use borrow.Author.Needs.{needs}
-use Rattle.scope.proofs.Patterns.{have-none, have-fault, have-here, have-next, HaveLeft}
-use lib.ListN.{length, drop}
 use Prim.Native.Nat.{_+_, _≤_}
+use native.Mathlib.Omega.{arith}
+use borrow.Author.Needs.{needs}
+use lib.ListN.{length, drop, length-drop}
+use Rattle.tsparql.specs.Reading.{got, patternAt, readPattern}
+use Rattle.slots.specs.Answers.{patternIn, slotsAt}
+use Rattle.query.proofs.ReadLaws.{part-drop}
+use Rattle.query.proofs.PatternParts.{pattern-there}
+use Rattle.scope.proofs.Patterns.{have-none, have-here, have-next, HaveLeft}
 use Rattle.scope.proofs.patterns_have.Statement.{statement}
 use Rattle.scope.proofs.patterns_have.Tie as tie
 
@@ -21,57 +21,50 @@ abbrev μ-loop : tie.MeasureT-loop
 loop-holds : tie.Need-loop-holds Inv-loop μ-loop
 loop-holds c = (record { same = refl; sound = c .before .pre .1 }, omega arith)
 
-sub-read-pattern : tie.Need-sub-read-pattern Inv-loop μ-loop
-sub-read-pattern c = search needs
+-- in a turn the next pattern's bytes are there
+there : (c : tie.In-loop Inv-loop μ-loop)
+    → let rest = drop (c .before .loop .p) (c .before .before .before .args .q .now) in
+    (9 ≤ length rest) × (readPattern rest ≡ got (patternAt rest) 9)
+there c = pattern-there (c .before .loop .left) _ (omega arith) (c .before .loop .inv .0 .sound)
 
-part-read-pattern-start : tie.Need-part-read-pattern-start Inv-loop μ-loop
-part-read-pattern-start c = search needs
-
-part-read-pattern-end : tie.Need-part-read-pattern-end Inv-loop μ-loop
-part-read-pattern-end c = search needs
-
-read-pattern-requires : tie.Need-read-pattern-requires Inv-loop μ-loop
-read-pattern-requires c κs = search needs
-
--- in a turn: the pattern at hand
-read-is : (c : tie.After-read-pattern Inv-loop μ-loop)
+-- and it is the pattern at hand
+found : (c : tie.After-pattern-at Inv-loop μ-loop)
     → let turn = c .before .before .before in
-    readPattern (drop (turn .loop .p) (turn .before .before .args .q .now)) ≡ patternFound (c .read-pattern .result)
-read-is c =
+    readPattern (drop (turn .loop .p) (turn .before .before .args .q .now)) ≡ got (patternIn (c .pattern-at .result)) 9
+found c =
     let turn = c .before .before .before in
-    on-part readPattern (turn .before .before .args .q .now) (turn .loop .p) (c .read-pattern .ensures)
+    let part = part-drop (turn .before .before .args .q .now) (turn .loop .p) in
+    there (c .before .before) .1 ∙ ap (λ p. got (patternIn p) 9) (sym (c .pattern-at .ensures ∙ ap slotsAt part))
 
--- and the place behind it
-inside : (c : tie.After-read-pattern Inv-loop μ-loop)
-    → let turn = c .before .before .before in
-    turn .loop .p + placeOf (patternFound (c .read-pattern .result)) ≤ length (turn .before .before .args .q .now)
-inside c =
-    let turn = c .before .before .before in
-    pattern-part (turn .before .before .args .q .now) (turn .loop .p) _ (c .read-pattern .ensures) (omega arith)
+-- the place behind it
+inside : (c : tie.In-loop Inv-loop μ-loop) → c .before .loop .p + 9 ≤ length (c .before .before .before .args .q .now)
+inside c = omega (arith, there c .0, length-drop (c .before .loop .p) (c .before .before .before .args .q .now))
 
-enum-known-r : tie.Need-enum-known-r Inv-loop μ-loop
-enum-known-r c = search needs
+sub-pattern-at : tie.Need-sub-pattern-at Inv-loop μ-loop
+sub-pattern-at c = search needs
 
-enum-told : tie.Need-enum-told Inv-loop μ-loop
-enum-told c = search needs
+part-pattern-at-start : tie.Need-part-pattern-at-start Inv-loop μ-loop
+part-pattern-at-start c = search needs
 
-returns : tie.Need-returns Inv-loop μ-loop
-returns c =
-    absurd (have-fault (c .before .before .before .before .before .loop .inv .0) (omega arith)
-    (read-is (c .before .before) ∙ ap patternFound (c .enum-told .given .1)))
+part-pattern-at-end : tie.Need-part-pattern-at-end Inv-loop μ-loop
+part-pattern-at-end c = search needs
+
+pattern-at-requires : tie.Need-pattern-at-requires Inv-loop μ-loop
+pattern-at-requires c κs =
+    let turn = c .before .before in
+    rw (part-drop (turn .before .before .args .q .now) (turn .loop .p)) (there (c .before) .0)
 
 pattern-has-requires : tie.Need-pattern-has-requires Inv-loop μ-loop
 pattern-has-requires c κs = search needs
 
-returns-2 : tie.Need-returns-2 Inv-loop μ-loop
-returns-2 c =
-    let found = read-is (c .before .before .before .before .before) ∙ ap patternFound (c .before .before .before .r .given .1) in
-    sym (have-here (c .before .before .before .before .before .before .before .before .loop .inv .0) (omega arith) found
+returns : tie.Need-returns Inv-loop μ-loop
+returns c =
+    let here = c .before .before in
+    sym (have-here (here .before .before .before .loop .inv .0) (omega arith) (found here)
     (sym (c .before .pattern-has .ensures) ∙ c .if1 .taken))
 
 add-p : tie.Need-add-p Inv-loop μ-loop
-add-p c =
-    omega (arith, inside (c .before .before .before .before .before), ap placeOf (ap patternFound (c .before .before .before .r .given .1)))
+add-p c = omega (arith, inside (c .before .before .before .before))
 
 sub-left : tie.Need-sub-left Inv-loop μ-loop
 sub-left c = search needs
@@ -81,18 +74,14 @@ loop-less c = search needs
 
 loop-again : tie.Need-loop-again Inv-loop μ-loop
 loop-again c =
-    let found = read-is (c .before .before .before .before .before) ∙ ap patternFound (c .before .before .before .r .given .1) in (
-      have-next (c .before .before .before .before .before .before .before .before .loop .inv .0) (omega arith) found
+    let here = c .before .before in (
+      have-next (here .before .before .before .loop .inv .0) (omega arith) (found here)
           (sym (c .before .pattern-has .ensures) ∙ c .if1 .left),
-      omega (
-        arith,
-        inside (c .before .before .before .before .before),
-        ap placeOf (ap patternFound (c .before .before .before .r .given .1)),
-      ),
+      inside (here .before .before),
     )
 
-returns-3 : tie.Need-returns-3 Inv-loop μ-loop
-returns-3 c = sym (have-none (c .before .loop .inv .0) (omega arith))
+returns-2 : tie.Need-returns-2 Inv-loop μ-loop
+returns-2 c = sym (have-none (c .before .loop .inv .0) (omega arith))
 
 pub patterns-have-spec : {M : Type 1} → statement M
 patterns-have-spec =
@@ -101,17 +90,14 @@ patterns-have-spec =
     Inv-loop
     μ-loop
     loop-holds
-    sub-read-pattern
-    part-read-pattern-start
-    part-read-pattern-end
-    read-pattern-requires
-    enum-known-r
-    enum-told
-    returns
+    sub-pattern-at
+    part-pattern-at-start
+    part-pattern-at-end
+    pattern-at-requires
     pattern-has-requires
-    returns-2
+    returns
     add-p
     sub-left
     loop-less
     loop-again
-    returns-3)
+    returns-2)
