@@ -10,11 +10,11 @@ use lib.ListN.{length, take, drop, length-drop}
 use lib.Seq.{drop-drop}
 use Rattle.tsparql.specs.Query.{Pattern}
 use Rattle.tsparql.specs.Reading.{Read, got, fault, andThen, require, bits24, slotSound, slotOf, readPattern, readPatterns}
-use Rattle.tsparql.proofs.WrittenRead.{readPattern-sound, Reads}
+use Rattle.tsparql.proofs.WrittenRead.{readPattern-sound}
 use Rattle.tsparql.specs.WellFormed.{PatternFormed}
 use Rattle.tsparql.specs.Writing.{patternBytes}
 use Rattle.query.specs.Parts.{placed, shift, patternsFrom}
-use Rattle.query.proofs.ReadLaws.{part-drop, placeOf}
+use Rattle.query.proofs.ReadLaws.{part-drop, placeOf, reads-inside}
 
 pub patterns-none : (s : List ℕ) (at n : ℕ) → n ≡ 0 → patternsFrom n at s ≡ got tt at
 unfolding readPatterns
@@ -49,11 +49,7 @@ patterns-fault s at zero p l e = absurd (omega arith)
 patterns-fault s at (suc n) p l e = rw (e, pattern-fault (drop at s) p e, add-zero at)
 
 pub pattern-inside : (s : List ℕ) → placeOf (readPattern s) ≤ length s
-pattern-inside s = go (readPattern s) (readPattern-sound s)
-  where
-    go : (r : Read Pattern) → Reads PatternFormed patternBytes s r → placeOf r ≤ length s
-    go (got p n) h = h .1 .inside
-    go (fault p) h = h
+pattern-inside s = reads-inside PatternFormed patternBytes s (readPattern s) (readPattern-sound s)
 
 -- the place behind a pattern that was read from a place on
 pub pattern-part : (s : List ℕ) (at : ℕ) (r : Read Pattern) → r ≡ readPattern (take (length s - at) (drop at s)) → at ≤ length s
