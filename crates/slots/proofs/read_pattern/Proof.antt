@@ -1,9 +1,10 @@
 -- A pattern, test by test: nine bytes and three sound slots. Assumes nothing.
 use borrow.Author.Tests.{le-leb, lt-leb}
-use mathlib.Core.Path.{sym, _∙_}
+use mathlib.Core.Path.{_≡_, sym, _∙_}
+use mathlib.Core.Bool.{_&&_}
 use native.Mathlib.Omega.{arith}
 use lib.ListN.{length}
-use Rattle.tsparql.specs.Reading.{readPattern}
+use Rattle.tsparql.specs.Reading.{got, require, slotSound, slotOf, readPattern}
 use borrow.Author.Needs.{needs}
 use Rattle.slots.proofs.read_pattern.Statement.{statement}
 use Rattle.slots.proofs.read_pattern.Tie as tie
@@ -30,58 +31,50 @@ slot-sound-requires-2 c κs = search needs
 slot-sound-requires-3 : tie.Need-slot-sound-requires-3
 slot-sound-requires-3 c κs = search needs
 
-returns-2 : tie.Need-returns-2
+-- nine bytes are there: the three slots decide
+by-slots : (c : tie.After-bits-at3)
+    → let s = c .before .before .bits-at .result in
+    let p = c .before .bits-at2 .result in
+    let o = c .bits-at3 .result in
+    readPattern (c .before .before .before .before .before .args .q .now)
+    ≡ require (slotSound s && slotSound p && slotSound o) (got (record { subject = slotOf s; predicate = slotOf p; object = slotOf o }) 9)
 unfolding readPattern
-returns-2 c =
-    let s = c .before .before .before .before .before .before .before .before .before .before .before .args .q .now in
+by-slots c =
     rw (
-      le-leb 9 (length s) (omega arith),
-      ← c .before .before .before .before .before .before .before .before .bits-at .ensures,
-      ← c .before .before .before .before .before .before .before .bits-at2 .ensures,
-      ← c .before .before .before .before .before .before .bits-at3 .ensures,
+      le-leb 9 (length (c .before .before .before .before .before .args .q .now)) (omega arith),
+      ← c .before .before .bits-at .ensures,
+      ← c .before .bits-at2 .ensures,
+      ← c .bits-at3 .ensures,
+    )
+
+returns-2 : tie.Need-returns-2
+returns-2 c =
+    rw (
+      by-slots (c .before .before .before .before .before .before),
       sym (c .before .before .before .before .before .slot-sound .ensures) ∙ c .before .before .before .before .if2 .taken,
       sym (c .before .before .before .slot-sound2 .ensures) ∙ c .before .before .if3 .taken,
       sym (c .before .slot-sound3 .ensures) ∙ c .if4 .taken,
     )
 
 returns-3 : tie.Need-returns-3
-unfolding readPattern
 returns-3 c =
-    let s = c .before .before .before .before .before .before .before .before .before .before .before .args .q .now in
     rw (
-      le-leb 9 (length s) (omega arith),
-      ← c .before .before .before .before .before .before .before .before .bits-at .ensures,
-      ← c .before .before .before .before .before .before .before .bits-at2 .ensures,
-      ← c .before .before .before .before .before .before .bits-at3 .ensures,
+      by-slots (c .before .before .before .before .before .before),
       sym (c .before .before .before .before .before .slot-sound .ensures) ∙ c .before .before .before .before .if2 .taken,
       sym (c .before .before .before .slot-sound2 .ensures) ∙ c .before .before .if3 .taken,
       sym (c .before .slot-sound3 .ensures) ∙ c .if4 .left,
     )
 
 returns-4 : tie.Need-returns-4
-unfolding readPattern
 returns-4 c =
-    let s = c .before .before .before .before .before .before .before .before .before .args .q .now in
     rw (
-      le-leb 9 (length s) (omega arith),
-      ← c .before .before .before .before .before .before .bits-at .ensures,
-      ← c .before .before .before .before .before .bits-at2 .ensures,
-      ← c .before .before .before .before .bits-at3 .ensures,
+      by-slots (c .before .before .before .before),
       sym (c .before .before .before .slot-sound .ensures) ∙ c .before .before .if2 .taken,
       sym (c .before .slot-sound2 .ensures) ∙ c .if3 .left,
     )
 
 returns-5 : tie.Need-returns-5
-unfolding readPattern
-returns-5 c =
-    let s = c .before .before .before .before .before .before .before .args .q .now in
-    rw (
-      le-leb 9 (length s) (omega arith),
-      ← c .before .before .before .before .bits-at .ensures,
-      ← c .before .before .before .bits-at2 .ensures,
-      ← c .before .before .bits-at3 .ensures,
-      sym (c .before .slot-sound .ensures) ∙ c .if2 .left,
-    )
+returns-5 c = rw (by-slots (c .before .before), sym (c .before .slot-sound .ensures) ∙ c .if2 .left)
 
 pub read-pattern-spec : {M : Type 1} → statement M
 read-pattern-spec =
