@@ -20,7 +20,8 @@ use Rattle.heads.specs.declared.ConditionHead.the-variants as C
 use Rattle.heads.specs.Parts.{secondOf, termOf, pairHead, termHead, connective, conditionHeadRead, conditionOperands}
 use Rattle.query.specs.Answers.{conditionHead}
 use Rattle.query.specs.Parts.{mapRead, follow, conditionsFrom}
-use Rattle.query.proofs.ReadLaws.{placeOf, by-kind, no-kind, cond-cases, require-cases, one-part, two-parts, from-fault, from-next, reads-inside}
+use Rattle.query.proofs.ReadLaws.{placeOf, by-kind, no-kind, cond-cases, require-cases, one-part, two-parts}
+use Rattle.query.proofs.ReadLaws.{from-fault, from-next, reads-inside}
 
 -- the operands of a head, behind its own bytes
 abbrev pub conditionsAfter : List ℕ → ConditionHead → ℕ → Read (Unit {0})

@@ -20,13 +20,16 @@ pub patterns-none : (s : List ℕ) (at n : ℕ) → n ≡ 0 → patternsFrom n a
 unfolding readPatterns
 patterns-none s at n e = rw (e, add-zero at)
 
+-- the patterns by the next one
+pub next-pattern : (s : List ℕ) (at n k : ℕ) (x : Pattern) → 1 ≤ n → readPattern (drop at s) ≡ got x k
+    → readPatterns n (drop at s) ≡ andThen k (readPatterns (n - 1) (drop (at + k) s)) (λ ps next. got (x ∷ ps) next)
+unfolding readPatterns
+next-pattern s at zero k x l e = absurd (omega arith)
+next-pattern s at (suc n) k x l e = let one : suc n - 1 ≡ n = omega arith in rw (e, one, zero-add k, drop-drop k at s)
+
 pub patterns-next : (s : List ℕ) (at n k : ℕ) (x : Pattern) → 1 ≤ n → readPattern (drop at s) ≡ got x k
     → patternsFrom n at s ≡ patternsFrom (n - 1) (at + k) s
-unfolding readPatterns
-patterns-next s at zero k x l e = absurd (omega arith)
-patterns-next s at (suc n) k x l e =
-    let one : suc n - 1 ≡ n = omega arith in
-    rw (e, one, zero-add k, drop-drop k at s) (go (readPatterns n (drop (at + k) s)))
+patterns-next s at n k x l e = rw (next-pattern s at n k x l e) (go (readPatterns (n - 1) (drop (at + k) s)))
   where
     go : (r : Read (List Pattern)) → placed (shift at (andThen k r (λ ps next. got (x ∷ ps) next))) ≡ placed (shift (at + k) r)
     go (got ps n) = ap (got (tt {0})) (sym (add-assoc at k n))
@@ -43,10 +46,13 @@ pattern-fault s p e =
     go true x d = cc
     go false x d = cc
 
-pub patterns-fault : (s : List ℕ) (at n p : ℕ) → 1 ≤ n → readPattern (drop at s) ≡ fault p → patternsFrom n at s ≡ fault at
+pub next-fault : (s : List ℕ) (at n p : ℕ) → 1 ≤ n → readPattern (drop at s) ≡ fault p → readPatterns n (drop at s) ≡ fault 0
 unfolding readPatterns
-patterns-fault s at zero p l e = absurd (omega arith)
-patterns-fault s at (suc n) p l e = rw (e, pattern-fault (drop at s) p e, add-zero at)
+next-fault s at zero p l e = absurd (omega arith)
+next-fault s at (suc n) p l e = rw (e, pattern-fault (drop at s) p e)
+
+pub patterns-fault : (s : List ℕ) (at n p : ℕ) → 1 ≤ n → readPattern (drop at s) ≡ fault p → patternsFrom n at s ≡ fault at
+patterns-fault s at n p l e = rw (next-fault s at n p l e, add-zero at)
 
 pub pattern-inside : (s : List ℕ) → placeOf (readPattern s) ≤ length s
 pattern-inside s = reads-inside PatternFormed patternBytes s (readPattern s) (readPattern-sound s)

@@ -45,7 +45,12 @@ returns-5 c =
     let s = c .before .before .before .before .before .args .q .now in
     let r = c .before .match .rest in
     c .plain-head .ensures
-    ∙ sym (rw (some (c .before .before .before), ne-eqb (kindOf s) 0 (r .0 .0 .1), ne-eqb (kindOf s) 5 (r .0 .1), ne-eqb (kindOf s) 6 (r .1)))
+    ∙ sym (rw (
+      some (c .before .before .before),
+      ne-eqb (kindOf s) 0 (r .0 .0 .1),
+      ne-eqb (kindOf s) 5 (r .0 .1),
+      ne-eqb (kindOf s) 6 (r .1),
+    ))
 
 pub read-head-spec : {M : Type 1} → statement M
 read-head-spec =

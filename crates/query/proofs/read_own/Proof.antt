@@ -26,7 +26,8 @@ returns c =
 
 -- the head
 head-is : (c : tie.After-known-told)
-    → nodeHeadRead (c .before .before .before .before .before .args .q .now) ≡ got (c .before .h .given .0 .0) (c .before .h .given .0 .1 .0)
+    → nodeHeadRead (c .before .before .before .before .before .args .q .now)
+    ≡ got (c .before .h .given .0 .0) (c .before .h .given .0 .1 .0)
 head-is c = sym (c .before .before .before .read-head .ensures) ∙ ap nodeFound (c .before .h .given .1)
 
 before-operands-requires : tie.Need-before-operands-requires
