@@ -251,7 +251,7 @@ condition-after : (s : List ℕ) (at : ℕ) → at ≤ length s
     → (at ≤ placeOf (conditionsFrom 1 at s)) × (placeOf (conditionsFrom 1 at s) ≤ length s)
 condition-after s at l = rw (one-condition s at) (shift-inside s at (readCondition (drop at s)) l (condition-inside (drop at s)))
 
-pub before-inside : (s : List ℕ) (h : Head) (own : ℕ) → own ≤ length s
+before-inside : (s : List ℕ) (h : Head) (own : ℕ) → own ≤ length s
     → (own ≤ placeOf (beforeOperands s h own)) × (placeOf (beforeOperands s h own) ≤ length s)
 before-inside s (H.PatternSet n) own l = shift-inside s own (readPatterns n (drop own s)) l (patterns-inside n (drop own s))
 before-inside s H.Join own l = (omega arith, l)

@@ -42,12 +42,12 @@ module _ {A B : Type 0} (f : A → B) where
 
 -- what follows a fault, and what follows a find, where only the place matters
 module _ {A B : Type 0} (f : A → B) where
-  pub follow-fault : {C : Type 0} (at : ℕ) (r : Read A) (k : A → ℕ → Read C) (p : ℕ) → mapRead f r ≡ fault p
+  follow-fault : {C : Type 0} (at : ℕ) (r : Read A) (k : A → ℕ → Read C) (p : ℕ) → mapRead f r ≡ fault p
       → follow (shift at r) k ≡ fault (at + p)
   follow-fault at (got a n) k p e = cc
   follow-fault at (fault q) k p e = let h : q ≡ p = cc in rw h
 
-  pub follow-got : {C : Type 0} (at : ℕ) (r : Read A) (k : ℕ → Read C) (h : B) (n : ℕ) → mapRead f r ≡ got h n
+  follow-got : {C : Type 0} (at : ℕ) (r : Read A) (k : ℕ → Read C) (h : B) (n : ℕ) → mapRead f r ≡ got h n
       → follow (shift at r) (λ a m. k m) ≡ k (at + n)
   follow-got at (got a m) k h n e = let g : m ≡ n = cc in rw g
   follow-got at (fault q) k h n e = cc
