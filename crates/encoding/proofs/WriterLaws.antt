@@ -1,7 +1,7 @@
 -- What the writers leave in an output: all bytes where they fit (`stored`), else none (`misfits`), and one writer's bytes behind
 -- another's (`wrote-behind`). Assumes nothing.
 use mathlib.Core.Path.{_≡_, refl, sym, ap, _∙_}
-use mathlib.Core.Bool.{Bool, true, false, _&&_, cond}
+use mathlib.Core.Bool.{Bool, true, false, _&&_, cond, and-false}
 use mathlib.Core.List.{List, [], _++_, append-nil, append-assoc}
 use Prim.Native.Nat.{ℕ, _+_, _-_, _≤_, _<_, zero-le}
 use native.Mathlib.Nat.{zero-add}
@@ -44,15 +44,14 @@ module _ (t : Bool) (ws out : List ℕ) where
   pub nothing-wrote : t ≡ false → WroteIfFits (cond t ws []) out out 0
   nothing-wrote e = rw (e, le-leb 0 (length out) zero-le) (record { size = refl; bytes = refl })
 
-pub and-true : (a b : Bool) → a ≡ true → b ≡ true → a && b ≡ true
-and-true a b d e = rw (d, e)
+pub both-true : (a b : Bool) → a ≡ true → b ≡ true → a && b ≡ true
+both-true a b d e = rw (d, e)
 
-pub and-false : (a b : Bool) → b ≡ false → a && b ≡ false
-and-false true b e = e
-and-false false b e = refl
+pub right-false : (a b : Bool) → b ≡ false → a && b ≡ false
+right-false a b e = rw e (and-false a)
 
-pub false-and : (a b : Bool) → a ≡ false → a && b ≡ false
-false-and a b e = rw e
+pub left-false : (a b : Bool) → a ≡ false → a && b ≡ false
+left-false a b e = rw e
 
 -- a pattern whose slots are sound is written as their numbers
 pub pattern-slots : (p : Pattern) → slotSound (p .subject) ≡ true → slotSound (p .predicate) ≡ true → slotSound (p .object) ≡ true

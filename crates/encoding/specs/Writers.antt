@@ -73,10 +73,6 @@ pub record Wrote (ws out out′ : List ℕ) (r : ℕ) : Type 0 where
   pub size : r ≡ length ws
   pub bytes : out′ ≡ ws ++ drop (length ws) out
 
--- what is written of them: all where they fit, else none
-abbrev pub fitting : List ℕ → List ℕ → List ℕ
-fitting ws out = cond (leb (length ws) (length out)) ws []
-
--- the bytes where they fit
+-- all of them where they fit, else none
 abbrev pub WroteIfFits : List ℕ → List ℕ → List ℕ → ℕ → Type 0
-WroteIfFits ws out out′ r = Wrote (fitting ws out) out out′ r
+WroteIfFits ws out out′ r = Wrote (cond (leb (length ws) (length out)) ws []) out out′ r

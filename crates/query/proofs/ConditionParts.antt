@@ -3,7 +3,7 @@
 use mathlib.Core.Path.{_≡_, refl, ap, _∙_}
 use mathlib.Core.Bool.{Bool, true, false, _&&_, not, cond, false≢true}
 use mathlib.Core.List.{List}
-use Prim.Native.Nat.{ℕ, zero, suc, _+_, _-_, _≤_, _<_, zero-le}
+use Prim.Native.Nat.{ℕ, _+_, _-_, _≤_, zero-le}
 use native.Mathlib.Omega.{arith}
 use borrow.Author.Tests.{ne-eqb, eqb-false, leb-true, ltb-true}
 use lib.Dec.{eqb, leb, ltb}
@@ -12,13 +12,16 @@ use Rattle.tsparql.specs.Query.{Condition, same, less, isTerm, negation, conjun
 use Rattle.tsparql.specs.Reading.{Read, got, fault, andThen, require, kindOf, lowOf, bits24, termSound, conditionStep, readCondition}
 use Rattle.tsparql.proofs.ListLaws.{and-right, and-left}
 use Rattle.tsparql.proofs.ReaderSteps.{readCondition-step}
-use Rattle.tsparql.proofs.WrittenRead.{ReadsCondition, readCondition-sound}
+use Rattle.tsparql.proofs.WrittenRead.{readCondition-sound}
+use Rattle.tsparql.specs.WellFormed.{ConditionFormed}
+use Rattle.tsparql.specs.Writing.{conditionBytes}
 use Rattle.heads.specs.declared.ConditionHead.{ConditionHead}
 use Rattle.heads.specs.declared.ConditionHead.the-variants as C
 use Rattle.heads.specs.Parts.{secondOf, termOf, pairHead, termHead, connective, conditionHeadRead, conditionOperands}
 use Rattle.query.specs.Answers.{conditionHead}
-use Rattle.query.specs.Parts.{mapRead, shift, follow, conditionsFrom}
-use Rattle.query.proofs.ReadLaws.{placeOf, by-kind, cond-cases, require-cases, follow-fault, follow-got}
+use Rattle.query.specs.Parts.{mapRead, follow, conditionsFrom}
+use Rattle.query.proofs.ReadLaws.{placeOf, by-kind, no-kind, cond-cases, require-cases, one-part, two-parts}
+use Rattle.query.proofs.ReadLaws.{from-fault, from-next, reads-inside}
 
 -- the operands of a head, behind its own bytes
 abbrev pub conditionsAfter : List ℕ → ConditionHead → ℕ → Read (Unit {0})
@@ -67,13 +70,7 @@ one-operand : (s : List ℕ) (b : Bool) (f : Condition → Condition) (h : Condi
     → mapRead conditionHead (require b (andThen 1 (readCondition (drop 1 s)) (λ c next. got (f c) next)))
     ≡ follow (require b (got h 1)) (operandsOf s)
 unfolding conditionsFrom
-one-operand s true f h e n = rw n (go (readCondition (drop 1 s)))
-  where
-    go : (r : Read Condition)
-        → mapRead conditionHead (andThen 1 r (λ c next. got (f c) next))
-        ≡ mapRead (λ _. h) (follow (shift 1 r) (λ c mid. got (tt {0}) mid))
-    go (got c n) = rw (e c)
-    go (fault p) = refl
+one-operand s true f h e n = rw n (one-part conditionHead h 1 f e (readCondition (drop 1 s)))
 one-operand s false f h e n = refl
 
 two-operands : (s : List ℕ) (b : Bool) (f : Condition → Condition → Condition) (h : ConditionHead)
@@ -84,21 +81,7 @@ two-operands : (s : List ℕ) (b : Bool) (f : Condition → Condition → Condit
     (λ c at. andThen at (readCondition (drop at s)) (λ d next. got (f c d) next))))
     ≡ follow (require b (got h 1)) (operandsOf s)
 unfolding conditionsFrom
-two-operands s true f h e n = rw n (go (readCondition (drop 1 s)))
-  where
-    second : (c : Condition) (at : ℕ) (r : Read Condition)
-        → mapRead conditionHead (andThen at r (λ d next. got (f c d) next))
-        ≡ mapRead (λ _. h) (follow (shift at r) (λ d mid. got (tt {0}) mid))
-    second c at (got d n) = rw (e c d)
-    second c at (fault p) = refl
-
-    go : (r : Read Condition)
-        → mapRead conditionHead
-        (andThen 1 r
-        (λ c at. andThen at (readCondition (drop at s)) (λ d next. got (f c d) next)))
-        ≡ mapRead (λ _. h) (follow (shift 1 r) (λ c mid. follow (shift mid (readCondition (drop mid s))) (λ d last. got (tt {0}) last)))
-    go (got c n) = second c (1 + n) (readCondition (drop (1 + n) s))
-    go (fault p) = refl
+two-operands s true f h e n = rw n (two-parts conditionHead h (λ at. readCondition (drop at s)) 1 f e (readCondition (drop 1 s)))
 two-operands s false f h e n = refl
 
 -- ---- the reader
@@ -123,19 +106,16 @@ condition-parts s = ap (mapRead conditionHead) (readCondition-step s) ∙ go (eq
         (λ k. rw (e, k) (last (eqb (lowOf s) 0)))
         (λ k. rw (
           e,
-          other k 0 (omega arith),
-          other k 1 (omega arith),
-          other k 2 (omega arith),
-          other k 3 (omega arith),
-          other k 4 (omega arith),
-          other k 5 (omega arith),
-          other k 6 (omega arith),
-          other k 7 (omega arith),
+          no-kind k 0 (omega arith),
+          no-kind k 1 (omega arith),
+          no-kind k 2 (omega arith),
+          no-kind k 3 (omega arith),
+          no-kind k 4 (omega arith),
+          no-kind k 5 (omega arith),
+          no-kind k 6 (omega arith),
+          no-kind k 7 (omega arith),
         ) (none (eqb (lowOf s) 0)))
       where
-        other : 8 ≤ kindOf s → (i : ℕ) → i < 8 → eqb (kindOf s) i ≡ false
-        other h i l = ne-eqb (kindOf s) i (λ z. omega arith)
-
         last : (b : Bool) → mapRead conditionHead (require b (got always 1)) ≡ follow (require b (got C.True 1)) (operandsOf s)
         last true = refl
         last false = refl
@@ -148,11 +128,7 @@ condition-parts s = ap (mapRead conditionHead) (readCondition-step s) ∙ go (eq
 
 -- a reader's place is inside its part
 pub condition-inside : (s : List ℕ) → placeOf (readCondition s) ≤ length s
-condition-inside s = go (readCondition s) (readCondition-sound s)
-  where
-    go : (r : Read Condition) → ReadsCondition s r → placeOf r ≤ length s
-    go (got c n) h = h .1 .inside
-    go (fault p) h = h
+condition-inside s = reads-inside ConditionFormed conditionBytes s (readCondition s) (readCondition-sound s)
 
 -- a head's own bytes are there, one at least, and it has two operands at most
 abbrev HeadInside : ℕ → Read ConditionHead → Type 0
@@ -219,13 +195,9 @@ condition-head-inside s e = rw e at (head-inside s)
 pub conditions-fault : (s : List ℕ) (n at p : ℕ) → 1 ≤ n → mapRead conditionHead (readCondition (drop at s)) ≡ fault p
     → conditionsFrom n at s ≡ fault (at + p)
 unfolding conditionsFrom
-conditions-fault s zero at p l e = absurd (omega arith)
-conditions-fault s (suc n) at p l e = follow-fault conditionHead at (readCondition (drop at s)) (λ c mid. conditionsFrom n mid s) p e
+conditions-fault = from-fault conditionHead readCondition conditionsFrom (λ n at s. refl)
 
 pub conditions-next : (s : List ℕ) (n at k : ℕ) (h : ConditionHead) → 1 ≤ n → mapRead conditionHead (readCondition (drop at s)) ≡ got h k
     → conditionsFrom n at s ≡ conditionsFrom (n - 1) (at + k) s
 unfolding conditionsFrom
-conditions-next s zero at k h l e = absurd (omega arith)
-conditions-next s (suc n) at k h l e =
-    let one : suc n - 1 ≡ n = omega arith in
-    rw one (follow-got conditionHead at (readCondition (drop at s)) (λ mid. conditionsFrom n mid s) h k e)
+conditions-next = from-next conditionHead readCondition conditionsFrom (λ n at s. refl)

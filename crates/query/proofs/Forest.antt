@@ -3,9 +3,9 @@
 use mathlib.Core.Path.{_≡_, refl, sym, ap, _∙_}
 use mathlib.Core.Bool.{Bool, true, false, _&&_}
 use mathlib.Core.List.{List, [], _∷_}
-use Prim.Native.Nat.{ℕ, _+_, _/_, _%_, _≤_, _<_}
+use Prim.Native.Nat.{ℕ, _+_, _/_, _%_, _≤_}
 use native.Mathlib.Omega.{arith}
-use borrow.Author.Tests.{eqb-true, ne-eqb}
+use borrow.Author.Tests.{eqb-true}
 use lib.Dec.{eqb, leb}
 use lib.ListN.{length, drop}
 use Rattle.tsparql.specs.Query.{Pattern, Condition, Node, patternSet, join, leftJoin, union, filter, projectTrust, ensureTrust}
@@ -24,7 +24,7 @@ use Rattle.query.specs.Answers.{nodeHead}
 use Rattle.heads.specs.Parts.{nodeHeadRead}
 use Rattle.query.specs.Parts.{conditionsFrom, beforeOperands, ownRead}
 use Rattle.query.specs.Variables.{QuerySound}
-use Rattle.query.proofs.ReadLaws.{by-kind, fault-not-got}
+use Rattle.query.proofs.ReadLaws.{by-kind, no-kind, fault-not-got}
 use Rattle.query.proofs.NodeParts.{one-condition}
 
 -- ---- nodes one behind the other
@@ -184,9 +184,6 @@ module _ (s : List ℕ) (x : Node) (n : ℕ) where
   unfolding nodeStep nodeHeadRead
   node-found-step e = start (eqb (length s) 0) refl
     where
-      other : 8 ≤ kindOf s → (i : ℕ) → i < 8 → eqb (kindOf s) i ≡ false
-      other h i l = ne-eqb (kindOf s) i (λ z. omega arith)
-
       start : (b : Bool) → eqb (length s) 0 ≡ b → NodeFound s x n
       start true d = absurd (fault-not-got (rw d at e))
       start false d =
@@ -251,13 +248,13 @@ module _ (s : List ℕ) (x : Node) (n : ℕ) where
           (fault-not-got
           (rw (
             d,
-            other k 0 (omega arith),
-            other k 1 (omega arith),
-            other k 2 (omega arith),
-            other k 3 (omega arith),
-            other k 4 (omega arith),
-            other k 5 (omega arith),
-            other k 6 (omega arith),
+            no-kind k 0 (omega arith),
+            no-kind k 1 (omega arith),
+            no-kind k 2 (omega arith),
+            no-kind k 3 (omega arith),
+            no-kind k 4 (omega arith),
+            no-kind k 5 (omega arith),
+            no-kind k 6 (omega arith),
           ) at e)))
 
 -- a node that was read is its parts

@@ -3,25 +3,27 @@
 use mathlib.Core.Path.{_≡_, refl, sym, ap, _∙_}
 use mathlib.Core.Bool.{Bool, true, false, _&&_}
 use mathlib.Core.List.{List}
-use Prim.Native.Nat.{ℕ, zero, suc, _+_, _-_, _/_, _%_, _≤_, _<_}
+use Prim.Native.Nat.{ℕ, _+_, _-_, _/_, _%_, _≤_}
 use native.Mathlib.Omega.{arith}
-use borrow.Author.Tests.{ne-eqb, eqb-false, leb-true}
+use borrow.Author.Tests.{eqb-false, leb-true}
 use lib.Dec.{eqb, leb}
 use lib.ListN.{length, drop, length-drop}
 use Rattle.tsparql.specs.Query.{Pattern, Condition, Node, patternSet, join, leftJoin, union, filter, projectTrust, ensureTrust}
 use Rattle.tsparql.specs.Reading.{Read, got, fault, andThen, require, kindOf, lowOf, bits24, readPatterns, readCondition}
 use Rattle.tsparql.specs.Reading.{oneNode, twoNodes, afterCondition, boundedNode, nodeStep, readNode}
 use Rattle.tsparql.specs.Lists.{concatMap}
-use Rattle.tsparql.specs.Writing.{patternBytes}
+use Rattle.tsparql.specs.Writing.{patternBytes, nodeBytes}
+use Rattle.tsparql.specs.WellFormed.{NodeFormed}
 use Rattle.tsparql.proofs.ListLaws.{and-left}
 use Rattle.tsparql.proofs.ReaderSteps.{readNode-step}
-use Rattle.tsparql.proofs.WrittenRead.{Reads, PatternsFormed, readPatterns-sound, ReadsNode, readNode-sound}
+use Rattle.tsparql.proofs.WrittenRead.{Reads, PatternsFormed, readPatterns-sound, readNode-sound}
 use Rattle.heads.specs.declared.Head.{Head}
 use Rattle.heads.specs.declared.Head.the-variants as H
 use Rattle.heads.specs.Parts.{boundsHead, plainHead, nodeHeadRead, nodeOperands}
 use Rattle.query.specs.Answers.{nodeHead}
 use Rattle.query.specs.Parts.{mapRead, placed, shift, follow, conditionsFrom, patternsFrom, beforeOperands, ownRead, nodesFrom}
-use Rattle.query.proofs.ReadLaws.{placeOf, placeOf-map, by-kind, cond-cases, require-cases, follow-fault, follow-got, fault-not-got}
+use Rattle.query.proofs.ReadLaws.{placeOf, placeOf-map, by-kind, no-kind, cond-cases, require-cases, fault-not-got}
+use Rattle.query.proofs.ReadLaws.{one-part, two-parts, from-fault, from-next, reads-inside}
 use Rattle.query.proofs.ConditionParts.{condition-inside}
 
 -- what stands behind a head's own bytes, to the last operand
@@ -33,24 +35,12 @@ nodesAfter s h own = follow (beforeOperands s h own) (λ _ at. nodesFrom (nodeOp
 one-node : (s : List ℕ) (at : ℕ) (f : Node → Node) (h : Head) → ((x : Node) → nodeHead (f x) ≡ h)
     → mapRead nodeHead (oneNode readNode s at f) ≡ mapRead (λ _. h) (nodesFrom 1 at s)
 unfolding nodesFrom
-one-node s at f h e = go (readNode (drop at s))
-  where
-    go : (r : Read Node)
-        → mapRead nodeHead (andThen at r (λ x next. got (f x) next))
-        ≡ mapRead (λ _. h) (follow (shift at r) (λ x mid. got (tt {0}) mid))
-    go (got x n) = rw (e x)
-    go (fault p) = refl
+one-node s at f h e = one-part nodeHead h at f e (readNode (drop at s))
 
 two-nodes : (s : List ℕ) (at : ℕ) (f : Node → Node → Node) (h : Head) → ((x y : Node) → nodeHead (f x y) ≡ h)
     → mapRead nodeHead (twoNodes readNode s at f) ≡ mapRead (λ _. h) (nodesFrom 2 at s)
 unfolding nodesFrom
-two-nodes s at f h e = go (readNode (drop at s))
-  where
-    go : (r : Read Node)
-        → mapRead nodeHead (andThen at r (λ x mid. oneNode readNode s mid (f x)))
-        ≡ mapRead (λ _. h) (follow (shift at r) (λ x mid. nodesFrom 1 mid s))
-    go (got x n) = one-node s (at + n) (f x) h (e x)
-    go (fault p) = refl
+two-nodes s at f h e = two-parts nodeHead h (λ mid. readNode (drop mid s)) at f e (readNode (drop at s))
 
 -- a condition first
 after-condition : (s : List ℕ) (n : ℕ) (k : Condition → ℕ → Read Node) (h : Head)
@@ -103,9 +93,6 @@ head-parts s = ap (mapRead nodeHead) (readNode-step s) ∙ go (eqb (length s) 0)
     upper : ℕ
     upper = bits24 s 1 % 4096
 
-    other : 8 ≤ kindOf s → (i : ℕ) → i < 8 → eqb (kindOf s) i ≡ false
-    other h i l = ne-eqb (kindOf s) i (λ z. omega arith)
-
     none : (b : Bool) → fault 0 ≡ follow (require b (fault 0)) (headAfter s)
     none true = refl
     none false = refl
@@ -144,13 +131,13 @@ head-parts s = ap (mapRead nodeHead) (readNode-step s) ∙ go (eqb (length s) 0)
         (λ k. rw (e, k) (none low))
         (λ k. rw (
           e,
-          other k 0 (omega arith),
-          other k 1 (omega arith),
-          other k 2 (omega arith),
-          other k 3 (omega arith),
-          other k 4 (omega arith),
-          other k 5 (omega arith),
-          other k 6 (omega arith),
+          no-kind k 0 (omega arith),
+          no-kind k 1 (omega arith),
+          no-kind k 2 (omega arith),
+          no-kind k 3 (omega arith),
+          no-kind k 4 (omega arith),
+          no-kind k 5 (omega arith),
+          no-kind k 6 (omega arith),
         ) (none low))
 
 -- the operands of a head, from a place on
@@ -176,11 +163,7 @@ node-parts s = head-parts s ∙ go (nodeHeadRead s)
 -- ---- places
 
 pub node-inside : (s : List ℕ) → placeOf (readNode s) ≤ length s
-node-inside s = go (readNode s) (readNode-sound s)
-  where
-    go : (r : Read Node) → ReadsNode s r → placeOf r ≤ length s
-    go (got x n) h = h .1 .inside
-    go (fault p) h = h
+node-inside s = reads-inside NodeFormed nodeBytes s (readNode s) (readNode-sound s)
 
 -- a head's own bytes are there, one at least
 abbrev HeadInside : ℕ → Read Head → Type 0
@@ -238,16 +221,12 @@ node-head-inside s e = rw e at (head-inside s)
 
 pub nodes-fault : (s : List ℕ) (n at p : ℕ) → 1 ≤ n → mapRead nodeHead (readNode (drop at s)) ≡ fault p → nodesFrom n at s ≡ fault (at + p)
 unfolding nodesFrom
-nodes-fault s zero at p l e = absurd (omega arith)
-nodes-fault s (suc n) at p l e = follow-fault nodeHead at (readNode (drop at s)) (λ x mid. nodesFrom n mid s) p e
+nodes-fault = from-fault nodeHead readNode nodesFrom (λ n at s. refl)
 
 pub nodes-next : (s : List ℕ) (n at k : ℕ) (h : Head) → 1 ≤ n → mapRead nodeHead (readNode (drop at s)) ≡ got h k
     → nodesFrom n at s ≡ nodesFrom (n - 1) (at + k) s
 unfolding nodesFrom
-nodes-next s zero at k h l e = absurd (omega arith)
-nodes-next s (suc n) at k h l e =
-    let one : suc n - 1 ≡ n = omega arith in
-    rw one (follow-got nodeHead at (readNode (drop at s)) (λ mid. nodesFrom n mid s) h k e)
+nodes-next = from-next nodeHead readNode nodesFrom (λ n at s. refl)
 
 -- ---- what stands before the operands
 
@@ -258,11 +237,7 @@ shift-inside s at (got a n) l h = (omega arith, omega (arith, length-drop at s))
 shift-inside s at (fault p) l h = (omega arith, omega (arith, length-drop at s))
 
 patterns-inside : (n : ℕ) (s : List ℕ) → placeOf (readPatterns n s) ≤ length s
-patterns-inside n s = go (readPatterns n s) (readPatterns-sound n s)
-  where
-    go : (r : Read (List Pattern)) → Reads (PatternsFormed n) (concatMap patternBytes) s r → placeOf r ≤ length s
-    go (got ps m) h = h .1 .inside
-    go (fault p) h = h
+patterns-inside n s = reads-inside (PatternsFormed n) (concatMap patternBytes) s (readPatterns n s) (readPatterns-sound n s)
 
 pub one-condition : (s : List ℕ) (at : ℕ) → conditionsFrom 1 at s ≡ placed (shift at (readCondition (drop at s)))
 unfolding conditionsFrom
@@ -276,7 +251,7 @@ condition-after : (s : List ℕ) (at : ℕ) → at ≤ length s
     → (at ≤ placeOf (conditionsFrom 1 at s)) × (placeOf (conditionsFrom 1 at s) ≤ length s)
 condition-after s at l = rw (one-condition s at) (shift-inside s at (readCondition (drop at s)) l (condition-inside (drop at s)))
 
-pub before-inside : (s : List ℕ) (h : Head) (own : ℕ) → own ≤ length s
+before-inside : (s : List ℕ) (h : Head) (own : ℕ) → own ≤ length s
     → (own ≤ placeOf (beforeOperands s h own)) × (placeOf (beforeOperands s h own) ≤ length s)
 before-inside s (H.PatternSet n) own l = shift-inside s own (readPatterns n (drop own s)) l (patterns-inside n (drop own s))
 before-inside s H.Join own l = (omega arith, l)

@@ -99,7 +99,6 @@ pub record OneOperand (s : List ℕ) (k : ℕ) : Type 0 where
 
 -- the left operand stands behind the head, the right one behind the left, and is the last
 pub record TwoOperands (s : List ℕ) (k m : ℕ) : Type 0 where
-  pub left-size : nodeSize (nodeOf (drop k s)) ≡ m
   pub left-sound : NodeSound (drop k s)
   pub right-sound : NodeSound (drop (k + m) s)
   pub operands : operandsIn (nodeOf s) ≡ nodeOf (drop k s) ∷ nodeOf (drop (k + m) s) ∷ []
@@ -160,7 +159,6 @@ module _ {s : List ℕ} {h : Head} {k : ℕ} (o : Own s h k) where
       let read : readNode (drop (k + nodeSize (nodeOf (drop k s))) s) ≡ got (two .1) (r .2 .0) = rw (left .1) (r .2 .1) in
       let right = found-is (drop (k + nodeSize (nodeOf (drop k s))) s) (two .1) (r .2 .0) read in
       record {
-        left-size = refl;
         left-sound = rw (r .1) tt;
         right-sound = rw read tt;
         operands = cc (two .2, left .0, right .0);

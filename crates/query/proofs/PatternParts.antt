@@ -11,24 +11,27 @@ use lib.ListN.{length, take, drop, length-drop}
 use lib.Seq.{drop-drop}
 use Rattle.tsparql.specs.Query.{Pattern}
 use Rattle.tsparql.specs.Reading.{Read, got, fault, andThen, require, bits24, slotSound, patternAt, readPattern, readPatterns}
-use Rattle.tsparql.proofs.WrittenRead.{readPattern-sound, Reads}
+use Rattle.tsparql.proofs.WrittenRead.{readPattern-sound}
 use Rattle.tsparql.specs.WellFormed.{PatternFormed}
 use Rattle.tsparql.specs.Writing.{patternBytes}
 use Rattle.query.specs.Parts.{placed, shift, patternsFrom}
 use Rattle.query.specs.Variables.{IsGot}
-use Rattle.query.proofs.ReadLaws.{part-drop, placeOf}
+use Rattle.query.proofs.ReadLaws.{part-drop, placeOf, reads-inside}
 
 pub patterns-none : (s : List ℕ) (at n : ℕ) → n ≡ 0 → patternsFrom n at s ≡ got tt at
 unfolding readPatterns
 patterns-none s at n e = rw (e, add-zero at)
 
+-- the patterns by the next one
+pub next-pattern : (s : List ℕ) (at n k : ℕ) (x : Pattern) → 1 ≤ n → readPattern (drop at s) ≡ got x k
+    → readPatterns n (drop at s) ≡ andThen k (readPatterns (n - 1) (drop (at + k) s)) (λ ps next. got (x ∷ ps) next)
+unfolding readPatterns
+next-pattern s at zero k x l e = absurd (omega arith)
+next-pattern s at (suc n) k x l e = let one : suc n - 1 ≡ n = omega arith in rw (e, one, zero-add k, drop-drop k at s)
+
 pub patterns-next : (s : List ℕ) (at n k : ℕ) (x : Pattern) → 1 ≤ n → readPattern (drop at s) ≡ got x k
     → patternsFrom n at s ≡ patternsFrom (n - 1) (at + k) s
-unfolding readPatterns
-patterns-next s at zero k x l e = absurd (omega arith)
-patterns-next s at (suc n) k x l e =
-    let one : suc n - 1 ≡ n = omega arith in
-    rw (e, one, zero-add k, drop-drop k at s) (go (readPatterns n (drop (at + k) s)))
+patterns-next s at n k x l e = rw (next-pattern s at n k x l e) (go (readPatterns (n - 1) (drop (at + k) s)))
   where
     go : (r : Read (List Pattern)) → placed (shift at (andThen k r (λ ps next. got (x ∷ ps) next))) ≡ placed (shift (at + k) r)
     go (got ps n) = ap (got (tt {0})) (sym (add-assoc at k n))
@@ -68,11 +71,7 @@ pattern-there (suc n) s some sound =
     go false x y z e h = absurd h
 
 pub pattern-inside : (s : List ℕ) → placeOf (readPattern s) ≤ length s
-pattern-inside s = go (readPattern s) (readPattern-sound s)
-  where
-    go : (r : Read Pattern) → Reads PatternFormed patternBytes s r → placeOf r ≤ length s
-    go (got p n) h = h .1 .inside
-    go (fault p) h = h
+pattern-inside s = reads-inside PatternFormed patternBytes s (readPattern s) (readPattern-sound s)
 
 -- the place behind a pattern that was read from a place on
 pub pattern-part : (s : List ℕ) (at : ℕ) (r : Read Pattern) → r ≡ readPattern (take (length s - at) (drop at s)) → at ≤ length s

@@ -3,11 +3,14 @@
 use mathlib.Core.Path.{_≡_, refl, sym, ap, subst, _∙_}
 use mathlib.Core.Bool.{Bool, true, false, cond}
 use mathlib.Core.List.{List}
-use Prim.Native.Nat.{ℕ, zero, suc, _+_, _-_, _≤_}
+use Prim.Native.Nat.{ℕ, zero, suc, _+_, _-_, _≤_, _<_}
 use native.Mathlib.Omega.{arith}
+use borrow.Author.Tests.{ne-eqb}
+use lib.Dec.{eqb}
 use lib.ListN.{length, take, drop, length-drop}
 use lib.Seq.{take-all}
-use Rattle.tsparql.specs.Reading.{Read, got, fault, require}
+use Rattle.tsparql.specs.Reading.{Read, got, fault, andThen, require}
+use Rattle.tsparql.proofs.WrittenRead.{Reads}
 use Rattle.query.specs.Parts.{mapRead, shift, follow}
 use Rattle.heads.specs.Answers.{faultIn}
 
@@ -39,12 +42,12 @@ module _ {A B : Type 0} (f : A → B) where
 
 -- what follows a fault, and what follows a find, where only the place matters
 module _ {A B : Type 0} (f : A → B) where
-  pub follow-fault : {C : Type 0} (at : ℕ) (r : Read A) (k : A → ℕ → Read C) (p : ℕ) → mapRead f r ≡ fault p
+  follow-fault : {C : Type 0} (at : ℕ) (r : Read A) (k : A → ℕ → Read C) (p : ℕ) → mapRead f r ≡ fault p
       → follow (shift at r) k ≡ fault (at + p)
   follow-fault at (got a n) k p e = cc
   follow-fault at (fault q) k p e = let h : q ≡ p = cc in rw h
 
-  pub follow-got : {C : Type 0} (at : ℕ) (r : Read A) (k : ℕ → Read C) (h : B) (n : ℕ) → mapRead f r ≡ got h n
+  follow-got : {C : Type 0} (at : ℕ) (r : Read A) (k : ℕ → Read C) (h : B) (n : ℕ) → mapRead f r ≡ got h n
       → follow (shift at r) (λ a m. k m) ≡ k (at + n)
   follow-got at (got a m) k h n e = let g : m ≡ n = cc in rw g
   follow-got at (fault q) k h n e = cc
@@ -75,6 +78,10 @@ by-kind (suc (suc (suc (suc (suc (suc zero)))))) a b c d e f g h i = g refl
 by-kind (suc (suc (suc (suc (suc (suc (suc zero))))))) a b c d e f g h i = h refl
 by-kind (suc (suc (suc (suc (suc (suc (suc (suc k)))))))) a b c d e f g h i = i (omega arith)
 
+-- above 7 it is none of them
+pub no-kind : {k : ℕ} → 8 ≤ k → (i : ℕ) → i < 8 → eqb k i ≡ false
+no-kind {k} h i l = ne-eqb k i (λ z. omega arith)
+
 -- what holds of both branches
 module _ {A : Type 0} (P : Read A → Type 0) where
   pub cond-cases : (b : Bool) (x y : Read A) → (b ≡ true → P x) → (b ≡ false → P y) → P (cond b x y)
@@ -96,6 +103,43 @@ module _ {H : Type 0} (X headR : Read H) (ops : H → ℕ → Read (Unit {0}))
 
   pub operands-got : (h : H) (own n : ℕ) → headR ≡ got h own → ops h own ≡ got tt n → X ≡ got h n
   operands-got h own n d e = parts ∙ rw (d, e)
+
+-- ---- operands one behind the other
+
+-- the head of what is made of one operand, or of two, is known before they are read
+module _ {A H : Type 0} (head : A → H) (h : H) where
+  pub one-part : (at : ℕ) (f : A → A) → ((a : A) → head (f a) ≡ h) → (r : Read A)
+      → mapRead head (andThen at r (λ a next. got (f a) next)) ≡ mapRead (λ _. h) (follow (shift at r) (λ a mid. got (tt {0}) mid))
+  one-part at f e (got a n) = rw (e a)
+  one-part at f e (fault p) = refl
+
+  pub two-parts : (read : ℕ → Read A) (at : ℕ) (f : A → A → A) → ((a b : A) → head (f a b) ≡ h) → (r : Read A)
+      → mapRead head (andThen at r (λ a mid. andThen mid (read mid) (λ b next. got (f a b) next)))
+      ≡ mapRead (λ _. h) (follow (shift at r) (λ a mid. follow (shift mid (read mid)) (λ b last. got (tt {0}) last)))
+  two-parts read at f e (got a n) = one-part (at + n) (f a) (e a) (read (at + n))
+  two-parts read at f e (fault p) = refl
+
+-- the next of n operands faults, or leaves those behind it
+module _ {A B : Type 0} (f : A → B) (read : List ℕ → Read A) (from : ℕ → ℕ → List ℕ → Read (Unit {0}))
+    (step : (n at : ℕ) (s : List ℕ) → from (suc n) at s ≡ follow (shift at (read (drop at s))) (λ a mid. from n mid s)) where
+  pub from-fault : (s : List ℕ) (n at p : ℕ) → 1 ≤ n → mapRead f (read (drop at s)) ≡ fault p → from n at s ≡ fault (at + p)
+  from-fault s zero at p l e = absurd (omega arith)
+  from-fault s (suc n) at p l e = step n at s ∙ follow-fault f at (read (drop at s)) (λ a mid. from n mid s) p e
+
+  pub from-next : (s : List ℕ) (n at k : ℕ) (h : B) → 1 ≤ n → mapRead f (read (drop at s)) ≡ got h k
+      → from n at s ≡ from (n - 1) (at + k) s
+  from-next s zero at k h l e = absurd (omega arith)
+  from-next s (suc n) at k h l e =
+      let one : suc n - 1 ≡ n = omega arith in
+      rw one (step n at s ∙ follow-got f at (read (drop at s)) (λ mid. from n mid s) h k e)
+
+-- ---- places inside
+
+-- a reader that is sound stays inside its part
+pub reads-inside : {A : Type 0} (F : A → Type 0) (write : A → List ℕ) (s : List ℕ) (r : Read A) → Reads F write s r
+    → placeOf r ≤ length s
+reads-inside F write s (got a n) h = h .1 .inside
+reads-inside F write s (fault p) h = h
 
 -- the place of what was read from a place on is inside the whole
 pub place-part : {A B : Type 0} (f : A → B) (read : List ℕ → Read A) → ((s : List ℕ) → placeOf (read s) ≤ length s)

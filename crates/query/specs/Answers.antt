@@ -1,6 +1,5 @@
 -- The answers of the readers of whole conditions and nodes, in the definitions' terms: for a tree the head that a reader answers for it;
 -- a place; the refusal of a fault. Assumes nothing.
-use Prim.Native.Nat.{ℕ}
 use lib.ListN.{length}
 use Rattle.tsparql.specs.Query.{Condition, bound, same, isTerm, less, negation, conjunction, disjunction, always}
 use Rattle.tsparql.specs.Query.{Node, patternSet, join, leftJoin, union, filter, projectTrust, ensureTrust}

@@ -1,5 +1,5 @@
 -- The check of a query by its parts: too long, a fault, surplus bytes, a clash, or sound. Assumes nothing.
-use mathlib.Core.Path.{_≡_, sym, ap, _∙_}
+use mathlib.Core.Path.{_≡_, sym, _∙_}
 use mathlib.Core.List.{List}
 use Prim.Native.Nat.{ℕ, _≤_, _<_}
 use native.Mathlib.Nat.{zero-add}
@@ -7,13 +7,9 @@ use native.Mathlib.Omega.{arith}
 use borrow.Author.Tests.{lt-ltb, le-ltb, eq-eqb, ne-eqb}
 use lib.ListN.{length}
 use Rattle.tsparql.specs.Query.{Node}
-use Rattle.tsparql.specs.Reading.{Read, got, fault, readNode, readQuery, queryNode}
+use Rattle.tsparql.specs.Reading.{got, fault, readNode, readQuery, queryNode}
 use Rattle.tsparql.specs.Check.{refuse, variablesRefusal, queryRefusal}
-use Rattle.query.specs.Answers.{nodeHead}
-use Rattle.heads.specs.declared.Head.{Head}
-use Rattle.query.specs.Parts.{mapRead}
 use Rattle.query.specs.Variables.{QuerySound}
-use Rattle.query.proofs.ReadLaws.{fault-not-got}
 use Rattle.scope.specs.declared.Clash.{Clash}
 use Rattle.scope.specs.declared.Clash.the-variants as C
 use Rattle.scope.specs.declared.QueryAnswer.{QueryAnswer}
@@ -59,17 +55,3 @@ whole-checked limit n s x C.Nowhere l e d h =
     let none = whole-refusal limit n s x l e d ∙ sym h in
     record { sound = rw none; refusal = sym none }
 whole-checked limit n s x (C.At p) l e d h = refused-checked limit 7 p s (omega arith) (whole-refusal limit n s x l e d ∙ sym h)
-
--- what a head that was read says of its node
-abbrev pub HeadOf : Read Head → Read Node → Type 0
-HeadOf (got h n) r = (x : Node) × (r ≡ got x n)
-HeadOf (fault p) r = r ≡ fault p
-
-pub head-node : (p : Read Head) (s : List ℕ) → p ≡ mapRead nodeHead (readNode s) → HeadOf p (readNode s)
-head-node p s e = go p (readNode s) e
-  where
-    go : (p : Read Head) (r : Read Node) → p ≡ mapRead nodeHead r → HeadOf p r
-    go (got h n) (got x m) d = let k : n ≡ m = cc in (x, ap (got x) (sym k))
-    go (got h n) (fault q) d = absurd (fault-not-got (sym d))
-    go (fault q) (got x m) d = absurd (fault-not-got d)
-    go (fault q) (fault k) d = let same : k ≡ q = cc in ap fault same

@@ -9,11 +9,11 @@ use native.Mathlib.Omega.{arith}
 use borrow.Author.Tests.{lt-ltb, le-ltb, eqb-true, eqb-false, eq-eqb, ne-eqb}
 use lib.Dec.{eqb}
 use lib.ListN.{drop}
-use lib.Seq.{drop-drop}
 use Rattle.tsparql.specs.Query.{Pattern}
 use Rattle.tsparql.specs.Reading.{Read, got, fault, andThen, slotOf, readPattern, readPatterns}
 use Rattle.tsparql.specs.Check.{slotVariables, variablesOf, occurrences}
-use Rattle.query.specs.Variables.{IsGot, PatternsSound}
+use Rattle.query.specs.Variables.{PatternsSound}
+use Rattle.query.proofs.PatternParts.{next-pattern}
 use Rattle.scope.specs.Variables.{has, patternsOf}
 use Rattle.scope.proofs.Uses.{occurrences-append}
 
@@ -56,19 +56,16 @@ record NextPattern (s : List ℕ) (left p k : ℕ) (x : Pattern) : Type 0 where
   variables : patternsOf left p s ≡ variablesOf x ++ patternsOf (left - 1) (p + k) s
   behind : PatternsSound (left - 1) (p + k) s
 
-next-pattern : (s : List ℕ) (left p k : ℕ) (x : Pattern) → 1 ≤ left → readPattern (drop p s) ≡ got x k → PatternsSound left p s
+next-of : (s : List ℕ) (left p k : ℕ) (x : Pattern) → 1 ≤ left → readPattern (drop p s) ≡ got x k → PatternsSound left p s
     → NextPattern s left p k x
-unfolding readPatterns
-next-pattern s zero p k x l e h = absurd (omega arith)
-next-pattern s (suc n) p k x l e h =
-    let one : suc n - 1 ≡ n = omega arith in
-    let rest = drop-drop k p s in
-    go (readPatterns n (drop (p + k) s)) refl one rest (rw (e, zero-add k, rest) at h)
+next-of s left p k x l e h = go (readPatterns (left - 1) (drop (p + k) s)) refl
   where
-    go : (r : Read (List Pattern)) → readPatterns n (drop (p + k) s) ≡ r → suc n - 1 ≡ n → drop k (drop p s) ≡ drop (p + k) s
-        → IsGot (andThen k (readPatterns n (drop (p + k) s)) (λ ps next. got (x ∷ ps) next)) → NextPattern s (suc n) p k x
-    go (got ps m) d one rest g = record { variables = rw (e, one, zero-add k, rest, d); behind = rw (one, d) tt }
-    go (fault m) d one rest g = absurd (rw d at g)
+    step : readPatterns left (drop p s) ≡ andThen k (readPatterns (left - 1) (drop (p + k) s)) (λ ps next. got (x ∷ ps) next)
+    step = next-pattern s p left k x l e
+
+    go : (r : Read (List Pattern)) → readPatterns (left - 1) (drop (p + k) s) ≡ r → NextPattern s left p k x
+    go (got ps m) d = record { variables = rw (step, d); behind = rw d tt }
+    go (fault m) d = absurd (rw (step, d) at h)
 
 module _ {v : ℕ} {s : List ℕ} {n at left p : ℕ} (h : HaveLeft v s n at left p) where
   pub have-none : left ≡ 0 → has v (patternsOf n at s) ≡ false
@@ -78,13 +75,13 @@ module _ {v : ℕ} {s : List ℕ} {n at left p : ℕ} (h : HaveLeft v s n at lef
   pub have-here : {x : Pattern} {k : ℕ} → 1 ≤ left → readPattern (drop p s) ≡ got x k → has v (variablesOf x) ≡ true
       → has v (patternsOf n at s) ≡ true
   have-here {x} {k} l e t =
-      h .same ∙ ap (has v) (next-pattern s left p k x l e (h .sound) .variables)
+      h .same ∙ ap (has v) (next-of s left p k x l e (h .sound) .variables)
       ∙ has-append v (variablesOf x) (patternsOf (left - 1) (p + k) s) ∙ rw t
 
   pub have-next : {x : Pattern} {k : ℕ} → 1 ≤ left → readPattern (drop p s) ≡ got x k → has v (variablesOf x) ≡ false
       → HaveLeft v s n at (left - 1) (p + k)
   have-next {x} {k} l e f =
-      let next = next-pattern s left p k x l e (h .sound) in
+      let next = next-of s left p k x l e (h .sound) in
       record {
         same = h .same ∙ ap (has v) (next .variables) ∙ has-append v (variablesOf x) (patternsOf (left - 1) (p + k) s) ∙ rw f;
         sound = next .behind;

@@ -5,7 +5,7 @@ use native.Mathlib.Omega.{arith}
 use Rattle.tsparql.specs.Reading.{slotSound}
 use Rattle.tsparql.proofs.WrittenRead.{slotSound-range}
 use Rattle.encoding.specs.Writers.{slotsBytes, soundPatternBytes}
-use Rattle.encoding.proofs.WriterLaws.{stored, misfits, nothing-wrote, and-false, false-and, pattern-slots}
+use Rattle.encoding.proofs.WriterLaws.{stored, misfits, nothing-wrote, right-false, left-false, pattern-slots}
 use borrow.Author.Needs.{needs}
 use Rattle.encoding.proofs.write_pattern.Statement.{statement}
 use Rattle.encoding.proofs.write_pattern.Tie as tie
@@ -64,18 +64,18 @@ returns-3 : tie.Need-returns-3
 returns-3 c =
     let a = c .before .before .before .before .before .before .before .args in
     nothing-wrote _ _ (a .out .now)
-    (and-false (slotSound (a .p .subject) && slotSound (a .p .predicate)) _ (sym (c .before .slot-sound3 .ensures) ∙ c .if3 .left))
+    (right-false (slotSound (a .p .subject) && slotSound (a .p .predicate)) _ (sym (c .before .slot-sound3 .ensures) ∙ c .if3 .left))
 
 returns-4 : tie.Need-returns-4
 returns-4 c =
     let a = c .before .before .before .before .before .args in
     nothing-wrote _ _ (a .out .now)
-    (false-and _ _ (and-false (slotSound (a .p .subject)) _ (sym (c .before .slot-sound2 .ensures) ∙ c .if2 .left)))
+    (left-false _ _ (right-false (slotSound (a .p .subject)) _ (sym (c .before .slot-sound2 .ensures) ∙ c .if2 .left)))
 
 returns-5 : tie.Need-returns-5
 returns-5 c =
     nothing-wrote _ _ (c .before .before .before .args .out .now)
-    (false-and _ _ (false-and _ _ (sym (c .before .slot-sound .ensures) ∙ c .if1 .left)))
+    (left-false _ _ (left-false _ _ (sym (c .before .slot-sound .ensures) ∙ c .if1 .left)))
 
 pub write-pattern-spec : {M : Type 1} → statement M
 write-pattern-spec =

@@ -7,7 +7,7 @@ use lib.Dec.{ltb}
 use lib.ListN.{length, length-set}
 use Rattle.tsparql.specs.Writing.{firstByte, threeBytes}
 use Rattle.tsparql.proofs.WrittenRead.{termSound-formed}
-use Rattle.encoding.proofs.WriterLaws.{stored-if, misfits-if, nothing-wrote, and-true, and-false, false-and}
+use Rattle.encoding.proofs.WriterLaws.{stored-if, misfits-if, nothing-wrote, both-true, right-false, left-false}
 use borrow.Author.Needs.{needs}
 use Rattle.encoding.proofs.write_term.Statement.{statement}
 use Rattle.encoding.proofs.write_term.Tie as tie
@@ -36,23 +36,23 @@ returns c =
     let a = test .before .before .before .before .args in
     rw (c .before .before .put-bits .ensures)
     (stored-if _ (firstByte 2 (a .v) ∷ threeBytes (a .a)) (a .out .now)
-    (and-true _ _ (lt-ltb (a .v) 16 (omega arith)) (sym (test .before .term-sound .ensures) ∙ test .if2 .taken)) (omega arith))
+    (both-true _ _ (lt-ltb (a .v) 16 (omega arith)) (sym (test .before .term-sound .ensures) ∙ test .if2 .taken)) (omega arith))
 
 returns-2 : tie.Need-returns-2
 returns-2 c =
     let a = c .before .before .before .before .before .args in
     misfits-if _ (firstByte 2 (a .v) ∷ threeBytes (a .a)) (a .out .now)
-    (and-true _ _ (lt-ltb (a .v) 16 (omega arith)) (sym (c .before .before .term-sound .ensures) ∙ c .before .if2 .taken)) (omega arith)
+    (both-true _ _ (lt-ltb (a .v) 16 (omega arith)) (sym (c .before .before .term-sound .ensures) ∙ c .before .if2 .taken)) (omega arith)
 
 returns-3 : tie.Need-returns-3
 returns-3 c =
     let a = c .before .before .before .before .args in
-    nothing-wrote _ _ (a .out .now) (and-false (ltb (a .v) 16) _ (sym (c .before .term-sound .ensures) ∙ c .if2 .left))
+    nothing-wrote _ _ (a .out .now) (right-false (ltb (a .v) 16) _ (sym (c .before .term-sound .ensures) ∙ c .if2 .left))
 
 returns-4 : tie.Need-returns-4
 returns-4 c =
     let a = c .before .before .args in
-    nothing-wrote _ _ (a .out .now) (false-and _ _ (le-ltb (a .v) 16 (omega arith)))
+    nothing-wrote _ _ (a .out .now) (left-false _ _ (le-ltb (a .v) 16 (omega arith)))
 
 pub write-term-spec : {M : Type 1} → statement M
 write-term-spec =

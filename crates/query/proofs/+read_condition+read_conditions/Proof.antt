@@ -7,12 +7,12 @@ use Rattle.heads.specs.Answers.{conditionFound, faultIn}
 use Rattle.query.specs.Answers.{conditionHead, placeFound}
 use Rattle.heads.specs.Parts.{conditionHeadRead}
 use Rattle.query.specs.Parts.{mapRead, conditionsFrom}
-use Rattle.query.proofs.ReadLaws.{part-drop, placeOf, faultIn-≤, head-fault, operands-fault, operands-got, place-part}
+use Rattle.query.proofs.ReadLaws.{on-part, placeOf, faultIn-≤, head-fault, operands-fault, operands-got, place-part}
 use Rattle.query.proofs.ConditionParts.{conditionsAfter, condition-parts, condition-inside}
 use Rattle.query.proofs.ConditionParts.{condition-head-inside, conditions-fault, conditions-next}
 use borrow.Author.Needs.{needs}
-use lib.ListN.{length}
-use Prim.Native.Nat.{_+_, _*_, ℕ, _<_}
+use lib.ListN.{length, drop}
+use Prim.Native.Nat.{ℕ, _+_, _*_, _≤_, _<_}
 use borrow.Fn.Kinds.{In}
 use borrow.Fn.PlainCycle.{Measures, is, falls, and}
 use Rattle.query.proofs.read_condition.Reads as read-condition
@@ -110,15 +110,19 @@ read-condition-condition-operands-requires :
     (t : ℕ) → read-condition-lts.Need-condition-operands-requires (read-condition-calls t) (read-condition-at t) read-condition.Post
 read-condition-condition-operands-requires t c κs = search needs
 
+-- the head
+head-is : (t : ℕ) (c : read-condition-lts.After-known-told (read-condition-calls t) (read-condition-at t) read-condition.Post)
+    → conditionHeadRead (c .before .before .before .before .before .args .q .now)
+    ≡ got (c .before .h .given .0 .0) (c .before .h .given .0 .1 .0)
+head-is t c = sym (c .before .before .before .read-condition-head .ensures) ∙ ap conditionFound (c .before .h .given .1)
+
 read-condition-read-conditions-requires :
     (t : ℕ) → read-condition-lts.Need-read-conditions-requires (read-condition-calls t) (read-condition-at t) read-condition.Post
 read-condition-read-conditions-requires t c κs =
-    let s = c .before .before .before .before .before .before .args .q .now in
-    let found : conditionHeadRead s ≡ got _ _ =
-    sym (c .before .before .before .before .read-condition-head .ensures) ∙ ap conditionFound (c .before .before .h .given .1) in
-    let h = condition-head-inside s found in
+    let start = c .before .before .before .before .before .before in
+    let h = condition-head-inside (start .args .q .now) (head-is t (c .before)) in
     let n = c .condition-operands .ensures in
-    (omega (arith, c .before .before .before .before .before .before .pre .0, n, h .2), (h .0, h .1, omega (arith, n, h .2)))
+    (omega (arith, start .pre .0, n, h .2), (h .0, h .1, omega (arith, n, h .2)))
 
 read-condition-enum-known-e : (t : ℕ) → read-condition-lts.Need-enum-known-e (read-condition-calls t)
     (read-condition-at t) read-condition.Post
@@ -132,33 +136,33 @@ read-condition-place-fault-requires : (t : ℕ) → read-condition-lts.Need-plac
     (read-condition-at t) read-condition.Post
 read-condition-place-fault-requires t c κs = search needs
 
+-- the operands behind it
+operands-are : (t : ℕ) (c : read-condition-lts.After-read-conditions (read-condition-calls t) (read-condition-at t) read-condition.Post)
+    → let own = c .before .before in
+    conditionsAfter (own .before .before .before .before .before .args .q .now)
+    (own .before .h .given .0 .0) (own .before .h .given .0 .1 .0)
+    ≡ placeFound (c .read-conditions .result)
+operands-are t c =
+    let own = c .before .before in
+    ap (λ k. conditionsFrom k (own .before .h .given .0 .1 .0) (own .before .before .before .before .before .args .q .now))
+    (sym (c .before .condition-operands .ensures)) ∙ sym (c .read-conditions .ensures)
+
 read-condition-returns-2 : (t : ℕ) → read-condition-lts.Need-returns-2 (read-condition-calls t) (read-condition-at t) read-condition.Post
 read-condition-returns-2 t c =
-    let s = c .before .before .before .before .before .before .before .before .before .before .args .q .now in
-    let head = c .before .before .before .before .before .before .h .given .0 .0 in
-    let own = c .before .before .before .before .before .before .h .given .0 .1 .0 in
-    let found : conditionHeadRead s ≡ got _ _ =
-    sym (c .before .before .before .before .before .before .before .before .read-condition-head .ensures)
-    ∙ ap conditionFound (c .before .before .before .before .before .before .h .given .1) in
-    let n = c .before .before .before .before .condition-operands .ensures in
+    let conditions = c .before .before .before in
+    let s = conditions .before .before .before .before .before .before .before .args .q .now in
     let told = ap placeFound (c .before .enum-told2 .given .1) in
-    let bad : conditionsAfter s head own ≡ fault _ =
-    ap (λ k. conditionsFrom k own s) (sym n) ∙ sym (c .before .before .before .read-conditions .ensures) ∙ told in
-    ap fault (c .place-fault .ensures ∙ ap faultIn told) ∙ sym (operands-fault _ _ (conditionsAfter s) (condition-parts s) _ _ _ found bad)
+    ap fault (c .place-fault .ensures ∙ ap faultIn told)
+    ∙ sym (operands-fault _ _ (conditionsAfter s) (condition-parts s) _ _ _ (head-is t (conditions .before .before))
+    (operands-are t conditions ∙ told))
 
 read-condition-returns-3 : (t : ℕ) → read-condition-lts.Need-returns-3 (read-condition-calls t) (read-condition-at t) read-condition.Post
 read-condition-returns-3 t c =
-    let s = c .before .before .before .before .before .before .before .before .before .before .args .q .now in
-    let head = c .before .before .before .before .before .before .h .given .0 .0 in
-    let own = c .before .before .before .before .before .before .h .given .0 .1 .0 in
-    let found : conditionHeadRead s ≡ got _ _ =
-    sym (c .before .before .before .before .before .before .before .before .read-condition-head .ensures)
-    ∙ ap conditionFound (c .before .before .before .before .before .before .h .given .1) in
-    let n = c .before .before .before .before .condition-operands .ensures in
+    let conditions = c .before .before .before in
+    let s = conditions .before .before .before .before .before .before .before .args .q .now in
     let told = ap placeFound (c .before .e .given .1) in
-    let good : conditionsAfter s head own ≡ got tt _ =
-    ap (λ k. conditionsFrom k own s) (sym n) ∙ sym (c .before .before .before .read-conditions .ensures) ∙ told in
-    sym (operands-got _ _ (conditionsAfter s) (condition-parts s) _ _ _ found good)
+    sym (operands-got _ _ (conditionsAfter s) (condition-parts s) _ _ _ (head-is t (conditions .before .before))
+    (operands-are t conditions ∙ told))
 
 read-conditions-returns : (t : ℕ) → read-conditions-lts.Need-returns (read-conditions-calls t) (read-conditions-at t) read-conditions.Post
 unfolding conditionsFrom
@@ -192,39 +196,43 @@ read-conditions-condition-fault-requires :
     (t : ℕ) → read-conditions-lts.Need-condition-fault-requires (read-conditions-calls t) (read-conditions-at t) read-conditions.Post
 read-conditions-condition-fault-requires t c κs = search needs
 
+-- the condition at hand
+abbrev Next : ℕ → Type 0
+Next t = read-conditions-lts.After-read-condition (read-conditions-calls t) (read-conditions-at t) read-conditions.Post
+
+next-is : (t : ℕ) (c : Next t)
+    → let a = c .before .before .before .before .args in
+    mapRead conditionHead (readCondition (drop (a .at) (a .q .now))) ≡ conditionFound (c .read-condition .result)
+next-is t c =
+    let a = c .before .before .before .before .args in
+    on-part (λ p. mapRead conditionHead (readCondition p)) (a .q .now) (a .at) (c .read-condition .ensures)
+
+-- and the place behind it
+next-inside : (t : ℕ) (c : Next t)
+    → let a = c .before .before .before .before .args in
+    a .at + placeOf (conditionFound (c .read-condition .result)) ≤ length (a .q .now)
+next-inside t c =
+    let a = c .before .before .before .before .args in
+    place-part conditionHead readCondition condition-inside (a .q .now) (a .at) _ (c .read-condition .ensures) (omega arith)
+
 read-conditions-add-t12 : (t : ℕ) → read-conditions-lts.Need-add-t12 (read-conditions-calls t) (read-conditions-at t) read-conditions.Post
 read-conditions-add-t12 t c =
-    let s = c .before .before .before .before .before .before .before .args .q .now in
-    omega (
-      arith,
-      place-part conditionHead readCondition condition-inside s (c .before .before .before .before .before .before .before .args .at) _
-          (c .before .before .before .read-condition .ensures) (omega arith),
-      faultIn-≤ (conditionFound (c .before .before .before .read-condition .result)),
-      c .condition-fault .ensures,
-    )
+    let here = c .before .before .before in
+    omega (arith, next-inside t here, faultIn-≤ (conditionFound (here .read-condition .result)), c .condition-fault .ensures)
 
 read-conditions-returns-2 : (t : ℕ) → read-conditions-lts.Need-returns-2 (read-conditions-calls t)
     (read-conditions-at t) read-conditions.Post
 read-conditions-returns-2 t c =
-    let s = c .before .before .before .before .before .before .before .args .q .now in
-    let at = c .before .before .before .before .before .before .before .args .at in
+    let here = c .before .before .before in
+    let a = here .before .before .before .before .args in
     let told = ap conditionFound (c .before .enum-told .given .1) in
-    let bad =
-    sym (ap (λ p. mapRead conditionHead (readCondition p)) (part-drop s at)) ∙ sym (c .before .before .before .read-condition .ensures)
-    ∙ told in
-    ap (λ p. fault (at + p)) (c .condition-fault .ensures ∙ ap faultIn told)
-    ∙ sym (conditions-fault s (c .before .before .before .before .before .before .before .args .n) at _ (omega arith) bad)
+    ap (λ p. fault (a .at + p)) (c .condition-fault .ensures ∙ ap faultIn told)
+    ∙ sym (conditions-fault (a .q .now) (a .n) (a .at) _ (omega arith) (next-is t here ∙ told))
 
 read-conditions-add-read-conditions : (t : ℕ) → read-conditions-lts.Need-add-read-conditions (read-conditions-calls t)
     (read-conditions-at t) read-conditions.Post
 read-conditions-add-read-conditions t c =
-    let s = c .before .before .before .before .before .before .before .args .q .now in
-    omega (
-      arith,
-      place-part conditionHead readCondition condition-inside s (c .before .before .before .before .before .before .before .args .at) _
-          (c .before .before .before .read-condition .ensures) (omega arith),
-      ap placeOf (ap conditionFound (c .before .c .given .1)),
-    )
+    omega (arith, next-inside t (c .before .before .before), ap placeOf (ap conditionFound (c .before .c .given .1)))
 
 read-conditions-sub-read-conditions : (t : ℕ) → read-conditions-lts.Need-sub-read-conditions (read-conditions-calls t)
     (read-conditions-at t) read-conditions.Post
@@ -233,23 +241,17 @@ read-conditions-sub-read-conditions t c = search needs
 read-conditions-read-conditions-requires :
     (t : ℕ) → read-conditions-lts.Need-read-conditions-requires (read-conditions-calls t) (read-conditions-at t) read-conditions.Post
 read-conditions-read-conditions-requires t c κs =
-    let s = c .before .before .before .before .before .before .before .args .q .now in
-    let inside =
-    place-part conditionHead readCondition condition-inside s (c .before .before .before .before .before .before .before .args .at) _
-    (c .before .before .before .read-condition .ensures) (omega arith) in
+    let here = c .before .before .before in
     let k = ap placeOf (ap conditionFound (c .before .c .given .1)) in
-    (omega (arith, c .before .before .before .before .before .before .before .pre .0), (omega arith, omega (arith, inside, k), omega arith))
+    (omega (arith, here .before .before .before .before .pre .0), (omega arith, omega (arith, next-inside t here, k), omega arith))
 
 read-conditions-returns-3 : (t : ℕ) → read-conditions-lts.Need-returns-3 (read-conditions-calls t)
     (read-conditions-at t) read-conditions.Post
 read-conditions-returns-3 t c =
-    let s = c .before .before .before .before .before .before .before .before .args .q .now in
-    let at = c .before .before .before .before .before .before .before .before .args .at in
-    let found = sym (ap (λ p. mapRead conditionHead (readCondition p)) (part-drop s at))
-    ∙ sym (c .before .before .before .before .read-condition .ensures)
-    ∙ ap conditionFound (c .before .before .c .given .1) in
-    c .read-conditions .ensures
-    ∙ sym (conditions-next s (c .before .before .before .before .before .before .before .before .args .n) at _ _ (omega arith) found)
+    let here = c .before .before .before .before in
+    let a = here .before .before .before .before .args in
+    let found = next-is t here ∙ ap conditionFound (c .before .before .c .given .1) in
+    c .read-conditions .ensures ∙ sym (conditions-next (a .q .now) (a .n) (a .at) _ _ (omega arith) found)
 
 pub +read-condition+read-conditions-spec : {M : Type 1} → statement M
 +read-condition+read-conditions-spec =

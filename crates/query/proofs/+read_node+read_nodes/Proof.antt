@@ -6,12 +6,12 @@ use Rattle.tsparql.specs.Reading.{got, fault, readNode}
 use Rattle.heads.specs.Answers.{nodeFound, faultIn}
 use Rattle.query.specs.Answers.{nodeHead, placeFound}
 use Rattle.query.specs.Parts.{mapRead, ownRead, nodesFrom}
-use Rattle.query.proofs.ReadLaws.{part-drop, placeOf, faultIn-≤, head-fault, operands-fault, operands-got, place-part}
+use Rattle.query.proofs.ReadLaws.{on-part, placeOf, faultIn-≤, head-fault, operands-fault, operands-got, place-part}
 use Rattle.query.proofs.NodeParts.{operandsFrom, node-parts, node-inside, own-inside, nodes-fault, nodes-next}
 use Rattle.query.proofs.Operands.{operands-few}
 use borrow.Author.Needs.{needs}
-use lib.ListN.{length}
-use Prim.Native.Nat.{_+_, _*_, ℕ, _<_}
+use lib.ListN.{length, drop}
+use Prim.Native.Nat.{ℕ, _+_, _*_, _≤_, _<_}
 use borrow.Fn.Kinds.{In}
 use borrow.Fn.PlainCycle.{Measures, is, falls, and}
 use Rattle.query.proofs.read_node.Reads as read-node
@@ -154,56 +154,57 @@ read-nodes-enum-told t c = search needs
 read-nodes-node-fault-requires : (t : ℕ) → read-nodes-lts.Need-node-fault-requires (read-nodes-calls t) (read-nodes-at t) read-nodes.Post
 read-nodes-node-fault-requires t c κs = search needs
 
+-- the node at hand
+abbrev Next : ℕ → Type 0
+Next t = read-nodes-lts.After-read-node (read-nodes-calls t) (read-nodes-at t) read-nodes.Post
+
+next-is : (t : ℕ) (c : Next t)
+    → let a = c .before .before .before .before .args in
+    mapRead nodeHead (readNode (drop (a .at) (a .q .now))) ≡ nodeFound (c .read-node .result)
+next-is t c =
+    let a = c .before .before .before .before .args in
+    on-part (λ p. mapRead nodeHead (readNode p)) (a .q .now) (a .at) (c .read-node .ensures)
+
+-- and the place behind it
+next-inside : (t : ℕ) (c : Next t)
+    → let a = c .before .before .before .before .args in
+    a .at + placeOf (nodeFound (c .read-node .result)) ≤ length (a .q .now)
+next-inside t c =
+    let a = c .before .before .before .before .args in
+    place-part nodeHead readNode node-inside (a .q .now) (a .at) _ (c .read-node .ensures) (omega arith)
+
 read-nodes-add-t12 : (t : ℕ) → read-nodes-lts.Need-add-t12 (read-nodes-calls t) (read-nodes-at t) read-nodes.Post
 read-nodes-add-t12 t c =
-    let s = c .before .before .before .before .before .before .before .args .q .now in
-    omega (
-      arith,
-      place-part nodeHead readNode node-inside s (c .before .before .before .before .before .before .before .args .at) _
-          (c .before .before .before .read-node .ensures) (omega arith),
-      faultIn-≤ (nodeFound (c .before .before .before .read-node .result)),
-      c .node-fault .ensures,
-    )
+    let here = c .before .before .before in
+    omega (arith, next-inside t here, faultIn-≤ (nodeFound (here .read-node .result)), c .node-fault .ensures)
 
 read-nodes-returns-2 : (t : ℕ) → read-nodes-lts.Need-returns-2 (read-nodes-calls t) (read-nodes-at t) read-nodes.Post
 read-nodes-returns-2 t c =
-    let s = c .before .before .before .before .before .before .before .args .q .now in
-    let at = c .before .before .before .before .before .before .before .args .at in
+    let here = c .before .before .before in
+    let a = here .before .before .before .before .args in
     let told = ap nodeFound (c .before .enum-told .given .1) in
-    let bad = sym (ap (λ p. mapRead nodeHead (readNode p)) (part-drop s at)) ∙ sym (c .before .before .before .read-node .ensures) ∙ told in
-    ap (λ p. fault (at + p)) (c .node-fault .ensures ∙ ap faultIn told)
-    ∙ sym (nodes-fault s (c .before .before .before .before .before .before .before .args .n) at _ (omega arith) bad)
+    ap (λ p. fault (a .at + p)) (c .node-fault .ensures ∙ ap faultIn told)
+    ∙ sym (nodes-fault (a .q .now) (a .n) (a .at) _ (omega arith) (next-is t here ∙ told))
 
 read-nodes-add-read-nodes : (t : ℕ) → read-nodes-lts.Need-add-read-nodes (read-nodes-calls t) (read-nodes-at t) read-nodes.Post
 read-nodes-add-read-nodes t c =
-    let s = c .before .before .before .before .before .before .before .args .q .now in
-    omega (
-      arith,
-      place-part nodeHead readNode node-inside s (c .before .before .before .before .before .before .before .args .at) _
-          (c .before .before .before .read-node .ensures) (omega arith),
-      ap placeOf (ap nodeFound (c .before .c .given .1)),
-    )
+    omega (arith, next-inside t (c .before .before .before), ap placeOf (ap nodeFound (c .before .c .given .1)))
 
 read-nodes-sub-read-nodes : (t : ℕ) → read-nodes-lts.Need-sub-read-nodes (read-nodes-calls t) (read-nodes-at t) read-nodes.Post
 read-nodes-sub-read-nodes t c = search needs
 
 read-nodes-read-nodes-requires : (t : ℕ) → read-nodes-lts.Need-read-nodes-requires (read-nodes-calls t) (read-nodes-at t) read-nodes.Post
 read-nodes-read-nodes-requires t c κs =
-    let s = c .before .before .before .before .before .before .before .args .q .now in
-    let inside =
-    place-part nodeHead readNode node-inside s (c .before .before .before .before .before .before .before .args .at) _
-    (c .before .before .before .read-node .ensures) (omega arith) in
+    let here = c .before .before .before in
     let k = ap placeOf (ap nodeFound (c .before .c .given .1)) in
-    (omega (arith, c .before .before .before .before .before .before .before .pre .0), (omega arith, omega (arith, inside, k), omega arith))
+    (omega (arith, here .before .before .before .before .pre .0), (omega arith, omega (arith, next-inside t here, k), omega arith))
 
 read-nodes-returns-3 : (t : ℕ) → read-nodes-lts.Need-returns-3 (read-nodes-calls t) (read-nodes-at t) read-nodes.Post
 read-nodes-returns-3 t c =
-    let s = c .before .before .before .before .before .before .before .before .args .q .now in
-    let at = c .before .before .before .before .before .before .before .before .args .at in
-    let found = sym (ap (λ p. mapRead nodeHead (readNode p)) (part-drop s at)) ∙ sym (c .before .before .before .before .read-node .ensures)
-    ∙ ap nodeFound (c .before .before .c .given .1) in
-    c .read-nodes .ensures ∙ sym (nodes-next s (c .before .before .before .before .before .before .before .before .args .n) at _ _
-    (omega arith) found)
+    let here = c .before .before .before .before in
+    let a = here .before .before .before .before .args in
+    let found = next-is t here ∙ ap nodeFound (c .before .before .c .given .1) in
+    c .read-nodes .ensures ∙ sym (nodes-next (a .q .now) (a .n) (a .at) _ _ (omega arith) found)
 
 pub +read-node+read-nodes-spec : {M : Type 1} → statement M
 +read-node+read-nodes-spec = close μ-read-node μ-read-nodes (λ t. read-node-lts.spec (read-node-calls t)

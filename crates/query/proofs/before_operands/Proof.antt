@@ -1,6 +1,4 @@
 -- By the head: patterns, a condition, or nothing. Assumes nothing.
-use mathlib.Core.Path.{sym, ap, _∙_}
-use Rattle.query.specs.Parts.{beforeOperands}
 use borrow.Author.Needs.{needs}
 use Rattle.query.proofs.before_operands.Statement.{statement}
 use Rattle.query.proofs.before_operands.Tie as tie
@@ -36,39 +34,25 @@ enum-told-6 : tie.Need-enum-told-6
 enum-told-6 c = search needs
 
 returns : tie.Need-returns
-returns c =
-    let a = c .before .before .before .before .before .args in
-    c .read-patterns .ensures ∙ sym (ap (λ h. beforeOperands (a .q .now) h (a .own)) (c .before .before .h .given .1))
+returns c = rw (c .before .before .h .given .1) (c .read-patterns .ensures)
 
 returns-2 : tie.Need-returns-2
-returns-2 c =
-    let a = c .before .before .before .args in
-    sym (ap (λ h. beforeOperands (a .q .now) h (a .own)) (c .enum-told .given .1))
+returns-2 c = rw (c .enum-told .given .1)
 
 returns-3 : tie.Need-returns-3
-returns-3 c =
-    let a = c .before .before .before .before .args in
-    c .read-conditions .ensures ∙ sym (ap (λ h. beforeOperands (a .q .now) h (a .own)) (c .before .enum-told2 .given .1))
+returns-3 c = rw (c .before .enum-told2 .given .1) (c .read-conditions .ensures)
 
 returns-4 : tie.Need-returns-4
-returns-4 c =
-    let a = c .before .before .before .args in
-    sym (ap (λ h. beforeOperands (a .q .now) h (a .own)) (c .enum-told3 .given .1))
+returns-4 c = rw (c .enum-told3 .given .1)
 
 returns-5 : tie.Need-returns-5
-returns-5 c =
-    let a = c .before .before .before .before .args in
-    c .read-conditions2 .ensures ∙ sym (ap (λ h. beforeOperands (a .q .now) h (a .own)) (c .before .enum-told4 .given .1))
+returns-5 c = rw (c .before .enum-told4 .given .1) (c .read-conditions2 .ensures)
 
 returns-6 : tie.Need-returns-6
-returns-6 c =
-    let a = c .before .before .before .args in
-    sym (ap (λ h. beforeOperands (a .q .now) h (a .own)) (c .enum-told5 .given .1))
+returns-6 c = rw (c .enum-told5 .given .1)
 
 returns-7 : tie.Need-returns-7
-returns-7 c =
-    let a = c .before .before .before .args in
-    sym (ap (λ h. beforeOperands (a .q .now) h (a .own)) (c .enum-told6 .given .1))
+returns-7 c = rw (c .enum-told6 .given .1)
 
 pub before-operands-spec : {M : Type 1} → statement M
 before-operands-spec =

@@ -4,7 +4,6 @@ use Rattle.tsparql.specs.Reading.{got, fault}
 use Rattle.heads.specs.Answers.{nodeFound, faultIn}
 use Rattle.query.specs.Answers.{placeFound}
 use Rattle.heads.specs.Parts.{nodeHeadRead}
-use Rattle.query.specs.Parts.{beforeOperands}
 use Rattle.query.proofs.NodeParts.{node-head-inside}
 use borrow.Author.Needs.{needs}
 use Rattle.query.proofs.read_own.Statement.{statement}
@@ -25,12 +24,14 @@ returns c =
     let bad : nodeHeadRead s ≡ fault _ = sym (c .before .before .read-head .ensures) ∙ ap nodeFound (c .enum-told .given .1) in
     c .before .before .read-head .ensures ∙ bad ∙ sym (rw bad)
 
+-- the head
+head-is : (c : tie.After-known-told)
+    → nodeHeadRead (c .before .before .before .before .before .args .q .now)
+    ≡ got (c .before .h .given .0 .0) (c .before .h .given .0 .1 .0)
+head-is c = sym (c .before .before .before .read-head .ensures) ∙ ap nodeFound (c .before .h .given .1)
+
 before-operands-requires : tie.Need-before-operands-requires
-before-operands-requires c κs =
-    let h =
-    node-head-inside (c .before .before .before .before .before .args .q .now)
-    (sym (c .before .before .before .read-head .ensures) ∙ ap nodeFound (c .before .h .given .1)) in
-    (h .0, h .1)
+before-operands-requires c κs = let h = node-head-inside _ (head-is c) in (h .0, h .1)
 
 enum-known-b : tie.Need-enum-known-b
 enum-known-b c = search needs
@@ -43,27 +44,14 @@ place-fault-requires c κs = search needs
 
 returns-2 : tie.Need-returns-2
 returns-2 c =
-    let s = c .before .before .before .before .before .before .before .before .before .args .q .now in
-    let found : nodeHeadRead s ≡ got _ _ =
-    sym (c .before .before .before .before .before .before .before .read-head .ensures)
-    ∙ ap nodeFound (c .before .before .before .before .before .h .given .1) in
-    let head = c .before .before .before .before .before .h .given .0 .0 in
-    let own = c .before .before .before .before .before .h .given .0 .1 .0 in
     let told = ap placeFound (c .before .enum-told2 .given .1) in
-    let bad : beforeOperands s head own ≡ fault _ = sym (c .before .before .before .before-operands .ensures) ∙ told in
-    ap fault (c .place-fault .ensures ∙ ap faultIn told) ∙ sym (rw (found, bad))
+    let bad = sym (c .before .before .before .before-operands .ensures) ∙ told in
+    ap fault (c .place-fault .ensures ∙ ap faultIn told) ∙ sym (rw (head-is (c .before .before .before .before), bad))
 
 returns-3 : tie.Need-returns-3
 returns-3 c =
-    let s = c .before .before .before .before .before .before .before .before .before .args .q .now in
-    let head = c .before .before .before .before .before .h .given .0 .0 in
-    let own = c .before .before .before .before .before .h .given .0 .1 .0 in
-    let found : nodeHeadRead s ≡ got head own =
-    sym (c .before .before .before .before .before .before .before .read-head .ensures)
-    ∙ ap nodeFound (c .before .before .before .before .before .h .given .1) in
-    let at : beforeOperands s head own ≡ got tt _ =
-    sym (c .before .before .before .before-operands .ensures) ∙ ap placeFound (c .before .b .given .1) in
-    sym (rw (found, at))
+    let good = sym (c .before .before .before .before-operands .ensures) ∙ ap placeFound (c .before .b .given .1) in
+    sym (rw (head-is (c .before .before .before .before), good))
 
 pub read-own-spec : {M : Type 1} → statement M
 read-own-spec =

@@ -193,7 +193,9 @@ own-fits t c =
 
 own-size-at : (t : ℕ) (c : OwnWritten t)
     → own-end-at t c ≡ ownSize (h-at t (read-of t c)) (b-at t (read-of t c)) (k-at t (read-of t c))
-own-size-at t c = let p = read-of t c in c .write-own .ensures .size ∙ own-taken (own-at t p) (b-at t p)
+own-size-at t c =
+    let p = read-of t c in
+    _∙_ {b = length (own-bytes-at t p)} (c .write-own .ensures .size) (own-taken (own-at t p) (b-at t p))
 
 own-long : (t : ℕ) (c : OwnWritten t) → length (out₁-at t c) ≡ length (out-at t (read-of t c))
 own-long t c = wrote-long (own-bytes-at t (read-of t c)) _ _ _ (c .write-own .ensures) (own-fits t c)

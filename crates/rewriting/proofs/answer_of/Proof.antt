@@ -1,6 +1,4 @@
 -- By the push's case. Assumes nothing.
-use mathlib.Core.Path.{sym, ap}
-use Rattle.rewriting.specs.Answers.{answerOf}
 use borrow.Author.Needs.{needs}
 use Rattle.rewriting.proofs.answer_of.Statement.{statement}
 use Rattle.rewriting.proofs.answer_of.Tie as tie
@@ -12,10 +10,10 @@ enum-known-p-2 : tie.Need-enum-known-p-2
 enum-known-p-2 c = search needs
 
 returns : tie.Need-returns
-returns c = sym (ap answerOf (c .before .p .given .1))
+returns c = rw (c .before .p .given .1)
 
 returns-2 : tie.Need-returns-2
-returns-2 c = sym (ap answerOf (c .before .p2 .given .1))
+returns-2 c = rw (c .before .p2 .given .1)
 
 pub answer-of-spec : {M : Type 1} → statement M
 answer-of-spec = tie.close (tie.spec enum-known-p enum-known-p-2 returns returns-2)

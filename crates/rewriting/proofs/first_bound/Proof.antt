@@ -1,6 +1,4 @@
 -- By the head. Assumes nothing.
-use mathlib.Core.Path.{sym, ap, _∙_}
-use Rattle.rewriting.specs.Bounds.{boundIn, firstBound}
 use borrow.Author.Needs.{needs}
 use Rattle.rewriting.proofs.first_bound.Statement.{statement}
 use Rattle.rewriting.proofs.first_bound.Tie as tie
@@ -54,9 +52,7 @@ returns-6 : tie.Need-returns-6
 returns-6 c = search needs
 
 returns-7 : tie.Need-returns-7
-returns-7 c =
-    let a = c .before .before .before .before .args in
-    c .meet .ensures ∙ sym (ap (λ h. firstBound h (boundIn (a .b))) (c .before .before .h .given .1))
+returns-7 c = rw (c .before .before .h .given .1) (c .meet .ensures)
 
 pub first-bound-spec : {M : Type 1} → statement M
 first-bound-spec =

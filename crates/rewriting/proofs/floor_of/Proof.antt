@@ -1,7 +1,4 @@
 -- By the bound's case. Assumes nothing.
-use mathlib.Core.Path.{sym, ap}
-use Rattle.tsparql.specs.Push.{trustFloor}
-use Rattle.rewriting.specs.Bounds.{boundIn}
 use borrow.Author.Needs.{needs}
 use Rattle.rewriting.proofs.floor_of.Statement.{statement}
 use Rattle.rewriting.proofs.floor_of.Tie as tie
@@ -16,7 +13,7 @@ returns : tie.Need-returns
 returns c = search needs
 
 returns-2 : tie.Need-returns-2
-returns-2 c = sym (ap (λ b. trustFloor (boundIn b)) (c .before .b .given .1))
+returns-2 c = rw (c .before .b .given .1)
 
 pub floor-of-spec : {M : Type 1} → statement M
 floor-of-spec = tie.close (tie.spec enum-told enum-known-b returns returns-2)

@@ -1,6 +1,4 @@
 -- By the bound's case. Assumes nothing.
-use mathlib.Core.Path.{sym, ap}
-use Rattle.rewriting.specs.Bounds.{boundIn, isBelow}
 use borrow.Author.Needs.{needs}
 use Rattle.rewriting.proofs.is_below.Statement.{statement}
 use Rattle.rewriting.proofs.is_below.Tie as tie
@@ -15,7 +13,7 @@ returns : tie.Need-returns
 returns c = search needs
 
 returns-2 : tie.Need-returns-2
-returns-2 c = sym (ap (λ b. isBelow (boundIn b)) (c .before .b .given .1))
+returns-2 c = rw (c .before .b .given .1)
 
 pub is-below-spec : {M : Type 1} → statement M
 is-below-spec = tie.close (tie.spec enum-told enum-known-b returns returns-2)

@@ -1,7 +1,4 @@
 -- By the bound's case. Assumes nothing.
-use mathlib.Core.Path.{sym, ap, _∙_}
-use Rattle.tsparql.specs.Push as D
-use Rattle.rewriting.specs.Bounds.{boundIn}
 use borrow.Author.Needs.{needs}
 use Rattle.rewriting.proofs.meet.Statement.{statement}
 use Rattle.rewriting.proofs.meet.Tie as tie
@@ -19,13 +16,10 @@ lesser-requires : tie.Need-lesser-requires
 lesser-requires c κs = search needs
 
 returns : tie.Need-returns
-returns c = let a = c .before .before .args in sym (ap (λ b. D.meet (boundIn b) (a .m) (a .w)) (c .enum-told .given .1))
+returns c = rw (c .enum-told .given .1)
 
 returns-2 : tie.Need-returns-2
-returns-2 c =
-    let a = c .before .before .before .before .before .args in
-    rw (c .before .greater .ensures, c .lesser .ensures)
-    (sym (ap (λ b. D.meet (boundIn b) (a .m) (a .w)) (c .before .before .before .b .given .1)))
+returns-2 c = rw (c .before .greater .ensures, c .lesser .ensures, c .before .before .before .b .given .1)
 
 pub meet-spec : {M : Type 1} → statement M
 meet-spec =

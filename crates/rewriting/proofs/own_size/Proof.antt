@@ -3,8 +3,6 @@ use mathlib.Core.Path.{sym, _∙_}
 use borrow.Author.Needs.{needs}
 use Rattle.rewriting.proofs.own_size.Statement.{statement}
 use Rattle.rewriting.proofs.own_size.Tie as tie
-use Rattle.rewriting.proofs.stays_put.Reads as stays-put-reads
-use Rattle.rewriting.proofs.wraps.Reads as wraps-reads
 
 stays-put-requires : tie.Need-stays-put-requires
 stays-put-requires c κs = search needs

@@ -1,13 +1,9 @@
 -- By the bound's case. Assumes nothing.
-use mathlib.Core.Path.{sym, ap}
 use native.Mathlib.Omega.{arith}
-use Rattle.tsparql.proofs.PushQuery.{BoundFormed}
-use Rattle.rewriting.specs.Bounds.{boundIn, wrapBytes}
 use Rattle.rewriting.proofs.PushParts.{wrap-wrote}
 use borrow.Author.Needs.{needs}
 use Rattle.rewriting.proofs.write_wrap.Statement.{statement}
 use Rattle.rewriting.proofs.write_wrap.Tie as tie
-use Rattle.encoding.proofs.write_head.Reads as write-head-reads
 
 enum-told : tie.Need-enum-told
 enum-told c = search needs

@@ -2,11 +2,13 @@
 use mathlib.Core.Path.{_≡_, sym, ap, _∙_}
 use native.Mathlib.Omega.{arith}
 use Rattle.tsparql.specs.Query.{Node}
-use Rattle.tsparql.specs.Reading.{got, fault, readNode}
+use Rattle.tsparql.specs.Reading.{got, readNode}
 use Rattle.heads.specs.Answers.{nodeFound, faultIn}
+use Rattle.query.specs.Answers.{nodeHead}
+use Rattle.query.proofs.ReadLaws.{made-fault, made-got}
 use Rattle.scope.specs.declared.Clash.the-variants as C
 use Rattle.scope.specs.Variables.{clashIn}
-use Rattle.scope.proofs.Checks.{head-node, long-checked, fault-checked, surplus-checked, whole-sound, whole-checked}
+use Rattle.scope.proofs.Checks.{long-checked, fault-checked, surplus-checked, whole-sound, whole-checked}
 use borrow.Author.Needs.{needs}
 use Rattle.scope.proofs.check_query.Statement.{statement}
 use Rattle.scope.proofs.check_query.Tie as tie
@@ -30,7 +32,7 @@ returns-2 : tie.Need-returns-2
 returns-2 c =
     let s = c .before .before .before .before .before .before .args .q .now in
     let told = ap nodeFound (c .before .enum-told .given .1) in
-    let bad = head-node (fault _) s (sym told ∙ c .before .before .before .read-node .ensures) in
+    let bad = made-fault nodeHead (readNode s) _ (sym (c .before .before .before .read-node .ensures) ∙ told) in
     rw (c .node-fault .ensures ∙ ap faultIn told) (fault-checked (c .before .before .before .before .before .before .args .limit) _ s
     (omega arith) bad)
 
@@ -38,9 +40,10 @@ returns-2 c =
 node-is : (c : tie.After-known-told) → (x : Node) × (readNode (c .before .before .before .before .before .before .args .q .now) ≡ got x
     (c .before .r .given .0 .1 .0))
 node-is c =
-    let r = c .before .r .given in
-    head-node (got (r .0 .0) (r .0 .1 .0)) (c .before .before .before .before .before .before .args .q .now)
-    (sym (ap nodeFound (r .1)) ∙ c .before .before .before .read-node .ensures)
+    let s = c .before .before .before .before .before .before .args .q .now in
+    let r = sym (c .before .before .before .read-node .ensures) ∙ ap nodeFound (c .before .r .given .1) in
+    let x = made-got nodeHead (readNode s) _ _ r in
+    (x .0, x .1)
 
 first-clash-requires : tie.Need-first-clash-requires
 first-clash-requires c κs =
