@@ -8,7 +8,7 @@
 pub const STACK_CHECK_KIB: usize = 800;
 pub const STACK_REWRITE_KIB: usize = 272;
 pub const STACK_CEILING_KIB: usize = 800;
-pub const STACK_EVALUATE_KIB: usize = 1728;
+pub const STACK_EVALUATE_KIB: usize = 1024;
 
 /// Why a call refuses its inputs, and where; both are 0 if nothing is refused.
 #[repr(C)]
