@@ -78,8 +78,8 @@ by-kind (suc (suc (suc (suc (suc (suc zero)))))) a b c d e f g h i = g refl
 by-kind (suc (suc (suc (suc (suc (suc (suc zero))))))) a b c d e f g h i = h refl
 by-kind (suc (suc (suc (suc (suc (suc (suc (suc k)))))))) a b c d e f g h i = i (omega arith)
 
--- above 7 it is none of them
-pub no-kind : {k : ℕ} → 8 ≤ k → (i : ℕ) → i < 8 → eqb k i ≡ false
+-- and none of the numbers below it
+pub no-kind : {k n : ℕ} → n ≤ k → (i : ℕ) → i < n → eqb k i ≡ false
 no-kind {k} h i l = ne-eqb k i (λ z. omega arith)
 
 -- what holds of both branches
