@@ -42,42 +42,39 @@ own-node f e =
     let is = sym (own-read f) ∙ e in
     (cc, cc)
 
-pub own-found : (s : List ℕ) (h : Head) (k : ℕ) → NodeSound s → ownRead s ≡ got h k → Own s h k
-own-found s h k sound e = go (readNode s) refl
+-- a part that starts with a node: it is read, up to its size
+pub sound-read : (s : List ℕ) → NodeSound s → readNode s ≡ got (nodeOf s) (nodeSize (nodeOf s))
+sound-read s sound = go (readNode s) refl
   where
-    go : (r : Read Node) → readNode s ≡ r → Own s h k
-    go (got x n) d =
-        let f = node-found s x n d in
-        let is = found-is s x n d in
-        let o = own-node f e in
-        let end : placeOf (readNode s) ≡ n = rw d in
-        let place : operandsAt (nodeOf s) (nodeSize (nodeOf s)) ≡ k = rw (is .1, is .0) (o .1) in
-        let operands : ReadsAll s k (operandsIn (nodeOf s)) (nodeSize (nodeOf s)) = rw (is .1, is .0, ← o .1) (f .operands-are) in
-        record {
-          head-is = ap nodeHead (is .0) ∙ o .0;
-          place-is = place;
-          formed = rw (is .0) (read-formed s x n d);
-          some = omega (arith, place, operandsAt-positive (nodeOf s));
-          inside = omega (
-            arith,
-            is .1,
-            end,
-            node-inside s,
-            readsAll-inside s k (operandsIn (nodeOf s)) (nodeSize (nodeOf s)) operands,
-          );
-          size-inside = omega (arith, is .1, end, node-inside s);
-          operands-are = operands;
-          parts-are = rw (is .0, ← o .0, ← f .own-is) (f .patterns-are);
-        }
+    go : (r : Read Node) → readNode s ≡ r → readNode s ≡ got (nodeOf s) (nodeSize (nodeOf s))
+    go (got x n) d = rw d (ap (got x) (read-size s x n d))
     go (fault p) d = absurd (rw d at sound)
 
--- a part that starts with a node has a head
+-- in its parts
+pub sound-found : (s : List ℕ) → NodeSound s → NodeFound s (nodeOf s) (nodeSize (nodeOf s))
+sound-found s sound = node-found s (nodeOf s) (nodeSize (nodeOf s)) (sound-read s sound)
+
+pub own-found : (s : List ℕ) (h : Head) (k : ℕ) → NodeSound s → ownRead s ≡ got h k → Own s h k
+own-found s h k sound e =
+    let d = sound-read s sound in
+    let f = sound-found s sound in
+    let o = own-node f e in
+    let size : nodeSize (nodeOf s) ≤ length s = omega (arith, ap placeOf d, node-inside s) in
+    let operands : ReadsAll s k (operandsIn (nodeOf s)) (nodeSize (nodeOf s)) = rw (← o .1) (f .operands-are) in
+    record {
+      head-is = o .0;
+      place-is = o .1;
+      formed = read-formed s (nodeOf s) (nodeSize (nodeOf s)) d;
+      some = omega (arith, o .1, operandsAt-positive (nodeOf s));
+      inside = omega (arith, size, readsAll-inside s k (operandsIn (nodeOf s)) (nodeSize (nodeOf s)) operands);
+      size-inside = size;
+      operands-are = operands;
+      parts-are = rw (← o .0, ← f .own-is) (f .patterns-are);
+    }
+
+-- it has a head
 pub own-sound : (s : List ℕ) (p : ℕ) → NodeSound s → ownRead s ≡ fault p → ⊥
-own-sound s p sound e = go (readNode s) refl
-  where
-    go : (r : Read Node) → readNode s ≡ r → ⊥
-    go (got x n) d = fault-not-got (sym e ∙ own-read (node-found s x n d))
-    go (fault q) d = rw d at sound
+own-sound s p sound e = fault-not-got (sym e ∙ own-read (sound-found s sound))
 
 -- ---- no operand, one and two
 

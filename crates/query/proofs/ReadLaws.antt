@@ -1,5 +1,5 @@
--- Laws of places: what was found through mapRead, shift and follow; a part of a slice is what drop leaves; a number by its cases.
--- Assumes nothing.
+-- Laws of places: a part of a slice is what drop leaves; what was read, by what was made of it; a number by its cases; what is read in
+-- parts; operands one behind the other; places inside. Assumes nothing.
 use mathlib.Core.Path.{_≡_, refl, sym, ap, subst, _∙_}
 use mathlib.Core.Bool.{Bool, true, false, cond}
 use mathlib.Core.List.{List}
@@ -40,18 +40,6 @@ module _ {A B : Type 0} (f : A → B) where
   pub made-by : (P : Read A → Type 0) (r : Read A) (b : B) (n : ℕ) → mapRead f r ≡ got b n → ((a : A) → f a ≡ b → P (got a n)) → P r
   made-by P r b n e k = let x = made-got r b n e in subst P (sym (x .1)) (k (x .0) (x .2))
 
--- what follows a fault, and what follows a find, where only the place matters
-module _ {A B : Type 0} (f : A → B) where
-  follow-fault : {C : Type 0} (at : ℕ) (r : Read A) (k : A → ℕ → Read C) (p : ℕ) → mapRead f r ≡ fault p
-      → follow (shift at r) k ≡ fault (at + p)
-  follow-fault at (got a n) k p e = cc
-  follow-fault at (fault q) k p e = let h : q ≡ p = cc in rw h
-
-  follow-got : {C : Type 0} (at : ℕ) (r : Read A) (k : ℕ → Read C) (h : B) (n : ℕ) → mapRead f r ≡ got h n
-      → follow (shift at r) (λ a m. k m) ≡ k (at + n)
-  follow-got at (got a m) k h n e = let g : m ≡ n = cc in rw g
-  follow-got at (fault q) k h n e = cc
-
 -- the place of what was found, fault or not
 abbrev pub placeOf : {A : Type 0} → Read A → ℕ
 placeOf (got a n) = n
@@ -78,8 +66,8 @@ by-kind (suc (suc (suc (suc (suc (suc zero)))))) a b c d e f g h i = g refl
 by-kind (suc (suc (suc (suc (suc (suc (suc zero))))))) a b c d e f g h i = h refl
 by-kind (suc (suc (suc (suc (suc (suc (suc (suc k)))))))) a b c d e f g h i = i (omega arith)
 
--- above 7 it is none of them
-pub no-kind : {k : ℕ} → 8 ≤ k → (i : ℕ) → i < 8 → eqb k i ≡ false
+-- and none of the numbers below it
+pub no-kind : {k n : ℕ} → n ≤ k → (i : ℕ) → i < n → eqb k i ≡ false
 no-kind {k} h i l = ne-eqb k i (λ z. omega arith)
 
 -- what holds of both branches
@@ -124,14 +112,14 @@ module _ {A B : Type 0} (f : A → B) (read : List ℕ → Read A) (from : ℕ �
     (step : (n at : ℕ) (s : List ℕ) → from (suc n) at s ≡ follow (shift at (read (drop at s))) (λ a mid. from n mid s)) where
   pub from-fault : (s : List ℕ) (n at p : ℕ) → 1 ≤ n → mapRead f (read (drop at s)) ≡ fault p → from n at s ≡ fault (at + p)
   from-fault s zero at p l e = absurd (omega arith)
-  from-fault s (suc n) at p l e = step n at s ∙ follow-fault f at (read (drop at s)) (λ a mid. from n mid s) p e
+  from-fault s (suc n) at p l e = step n at s ∙ rw (made-fault f (read (drop at s)) p e)
 
   pub from-next : (s : List ℕ) (n at k : ℕ) (h : B) → 1 ≤ n → mapRead f (read (drop at s)) ≡ got h k
       → from n at s ≡ from (n - 1) (at + k) s
   from-next s zero at k h l e = absurd (omega arith)
   from-next s (suc n) at k h l e =
       let one : suc n - 1 ≡ n = omega arith in
-      rw one (step n at s ∙ follow-got f at (read (drop at s)) (λ mid. from n mid s) h k e)
+      rw one (step n at s ∙ rw (made-got f (read (drop at s)) h k e .1))
 
 -- ---- places inside
 

@@ -1,6 +1,6 @@
 -- How often a variable is used: by a node itself, by its operands, by nodes one behind the other. It clashes in a query exactly if it is
 -- used twice, a pattern counting for two (`uses-clashes`); and the project trust nodes of a query are met on the walk from head to head
--- (`forest-projections`). Assumes nothing.
+-- (`forestProjections-step`). Assumes nothing.
 use mathlib.Core.Path.{_≡_, refl, sym, ap, _∙_}
 use mathlib.Core.Bool.{Bool, true, false, _||_}
 use mathlib.Core.List.{List, [], _∷_, _++_, map, append-assoc}

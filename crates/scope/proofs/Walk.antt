@@ -1,7 +1,7 @@
 -- A walk from head to head passes every node in prefix order (`forest-step`). What the loops over nodes keep, and their steps: the uses of
 -- the nodes left (`UsesLeft`), the first clash among them (`ClashLeft`). Assumes nothing.
 use mathlib.Core.Path.{_≡_, refl, sym, ap, _∙_, subst}
-use mathlib.Core.Bool.{Bool, true, false, _&&_, cond}
+use mathlib.Core.Bool.{Bool, true, false, cond}
 use mathlib.Core.List.{List, [], _∷_, _++_, append-nil}
 use Prim.Native.Nat.{ℕ, _+_, _≤_, _<_}
 use native.Mathlib.Nat.{add-assoc}
@@ -15,6 +15,7 @@ use Rattle.tsparql.specs.Query.{Node, patternSet, join, leftJoin, union, filter
 use Rattle.tsparql.specs.Reading.{Read, got, fault, readNode, queryNode}
 use Rattle.tsparql.specs.WellFormed.{NodeFormed}
 use Rattle.tsparql.specs.Check.{variablesOf, refuse, noRefusal, clashes, firstClash, trustProjections, variablesRefusal}
+use Rattle.tsparql.proofs.ListLaws.{and-left, and-right}
 use Rattle.tsparql.proofs.QuerySize.{nodeSize, nodeSize-positive}
 use Rattle.tsparql.proofs.WrittenRead.{ReadsNode, readNode-sound}
 use Rattle.query.specs.Answers.{nodeHead}
@@ -26,6 +27,7 @@ use Rattle.query.specs.Variables.{PatternsSound, NodeSound, nodeOf, nextNode, Q
 use Rattle.query.proofs.ReadLaws.{fault-not-got}
 use Rattle.query.proofs.Forest.{ReadsAll, readsAll-inside, operandsIn, operandsAt, operandsAt-positive, PatternsRead, NodeFound}
 use Rattle.query.proofs.Forest.{query-reads, node-found, own-read, read-size, read-formed}
+use Rattle.query.proofs.Operands.{sound-found}
 use Rattle.scope.specs.Variables.{has, patternsOf, ownUses, headVariable, foundVariable, projectedIn, clashesWith, clashAt}
 use Rattle.scope.proofs.Uses.{uses, forestUses, forestUses-step, uses-clashes, forestProjections, ownProjection, clash-pass}
 use Rattle.scope.proofs.Uses.{clash-free, clash-here}
@@ -97,19 +99,21 @@ node-here s at (x ∷ xs) l h =
       reads = subst (λ m. ReadsAll s (at + operandsAt x m) (operandsIn x ++ xs) (length s)) size (step .1);
     }
 
+module _ {s : List ℕ} {at k : ℕ} {xs : List Node} (n : NodeHere s at xs) (e : nextNode (drop at s) ≡ got tt k) where
+  next-place : operandsAt (n .node) (nodeSize (n .node)) ≡ k
+  next-place = let d = sym (n .next) ∙ e in cc
+
+  -- the nodes left from there on
+  next-reads : ReadsAll s (at + k) (operandsIn (n .node) ++ n .behind) (length s)
+  next-reads = subst (λ i. ReadsAll s (at + i) (operandsIn (n .node) ++ n .behind) (length s)) next-place (n .reads)
+
 -- the place of the next node lies behind this one's head, and in the query
 pub next-inside : (s : List ℕ) (at k : ℕ) (xs : List Node) → at < length s → ReadsAll s at xs (length s) → nextNode (drop at s) ≡ got tt k
     → (1 ≤ k) × (at + k ≤ length s)
 next-inside s at k xs l h e =
-    let here = node-here s at xs l h in
-    let is : operandsAt (here .node) (nodeSize (here .node)) ≡ k = cc in (
-      omega (arith, is, operandsAt-positive (here .node)),
-      omega (
-        arith,
-        is,
-        readsAll-inside s (at + operandsAt (here .node) (nodeSize (here .node))) (operandsIn (here .node) ++ here .behind) (length s)
-            (here .reads),
-      ),
+    let here = node-here s at xs l h in (
+      omega (arith, next-place here e, operandsAt-positive (here .node)),
+      readsAll-inside s (at + k) (operandsIn (here .node) ++ here .behind) (length s) (next-reads here e),
     )
 
 pub next-found : (s : List ℕ) (at p : ℕ) (xs : List Node) → at < length s → ReadsAll s at xs (length s) → nextNode (drop at s) ≡ fault p → ⊥
@@ -151,22 +155,14 @@ by-node v s own (projectTrust w x) e r = record { uses-are = rw e; patterns-soun
 by-node v s own (ensureTrust l u x) e r = record { uses-are = rw e; patterns-sound = tt }
 
 pub head-of-node : (v : ℕ) (s : List ℕ) {own : ℕ} {h : Head} → NodeSound s → nodeHeadRead s ≡ got h own → HeadOfNode v s own h
-head-of-node v s {own} {h} sound e = go (readNode s) refl
-  where
-    go : (r : Read Node) → readNode s ≡ r → HeadOfNode v s own h
-    go (got x n) d =
-        let f = node-found s x n d in
-        let head : nodeHead x ≡ h = cc (f .head-is) in
-        let place : f .own ≡ own = cc (f .head-is) in
-        rw head at (by-node v s own x (rw d) (rw place at (f .patterns-are)))
-    go (fault p) d = absurd (rw d at sound)
+head-of-node v s {own} {h} sound e =
+    let f = sound-found s sound in
+    let head : nodeHead (nodeOf s) ≡ h = cc (f .head-is) in
+    let place : f .own ≡ own = cc (f .head-is) in
+    subst (HeadOfNode v s own) head (by-node v s own (nodeOf s) refl (rw place at (f .patterns-are)))
 
 pub head-sound : (s : List ℕ) {p : ℕ} → NodeSound s → nodeHeadRead s ≡ fault p → ⊥
-head-sound s sound e = go (readNode s) refl
-  where
-    go : (r : Read Node) → readNode s ≡ r → ⊥
-    go (got x n) d = fault-not-got (sym e ∙ node-found s x n d .head-is)
-    go (fault p) d = rw d at sound
+head-sound s sound e = fault-not-got (sym e ∙ sound-found s sound .head-is)
 
 -- a node uses a variable at most twice itself
 pub ownUses-small : (v : ℕ) (x : Node) → ownUses v x ≤ 2
@@ -220,10 +216,9 @@ module _ {v : ℕ} {s : List ℕ} {at seen : ℕ} (h : UsesLeft v s at seen) whe
       → UsesLeft v s (at + k) (seen + ownUses v (nodeOf (drop at s)))
   uses-next {k} l e m =
       let n = here l in
-      let is : operandsAt (n .node) (nodeSize (n .node)) ≡ k = cc in
       record {
         forest = operandsIn (n .node) ++ n .behind;
-        reads = subst (λ i. ReadsAll s (at + i) (operandsIn (n .node) ++ n .behind) (length s)) is (n .reads);
+        reads = next-reads n e;
         total = omega (arith, split l);
         few = omega arith;
       }
@@ -274,10 +269,6 @@ own-one at (filter c x) l = absurd (omega arith)
 own-one at (projectTrust v x) l = refl
 own-one at (ensureTrust lower upper x) l = absurd (omega arith)
 
-both-true : (a b : Bool) → a && b ≡ true → (a ≡ true) × (b ≡ true)
-both-true true b e = (refl, e)
-both-true false b e = absurd (let z : _≡_ {A = ℕ} 0 1 = cc in omega arith)
-
 module _ {s : List ℕ} {at : ℕ} (h : ClashLeft s at) where
   met : at < length s → NodeHere s at (h .forest)
   met l = node-here s at (h .forest) l (h .reads)
@@ -297,8 +288,9 @@ module _ {s : List ℕ} {at : ℕ} (h : ClashLeft s at) where
   pub clash-is : at < length s → clashAt s at ≡ true → variablesRefusal (queryNode s) ≡ refuse 7 at
   clash-is l t =
       let v = projectedIn (drop at s) in
-      let both = both-true (ltb v 16) (clashesWith s v) t in
-      first l ∙ clash-here (queryNode s) at v (met l .node) (met l .behind) (projects l (ltb-true v 16 (both .0))) (both .1)
+      first l
+      ∙ clash-here (queryNode s) at v (met l .node) (met l .behind)
+      (projects l (ltb-true v 16 (and-left (ltb v 16) (clashesWith s v) t))) (and-right (ltb v 16) (clashesWith s v) t)
 
   behind : {k : ℕ} (l : at < length s) → nextNode (drop at s) ≡ got tt k
       → firstClash (keepIf (clashes (queryNode s)) (forestProjections at (met l .node ∷ met l .behind)))
@@ -307,12 +299,11 @@ module _ {s : List ℕ} {at : ℕ} (h : ClashLeft s at) where
       → ClashLeft s (at + k)
   behind {k} l e d =
       let n = met l in
-      let is : operandsAt (n .node) (nodeSize (n .node)) ≡ k = cc in
       let rest = operandsIn (n .node) ++ n .behind in
       record {
         forest = rest;
-        reads = subst (λ i. ReadsAll s (at + i) rest (length s)) is (n .reads);
-        same = first l ∙ d ∙ ap (λ i. firstClash (keepIf (clashes (queryNode s)) (forestProjections (at + i) rest))) is;
+        reads = next-reads n e;
+        same = first l ∙ d ∙ ap (λ i. firstClash (keepIf (clashes (queryNode s)) (forestProjections (at + i) rest))) (next-place n e);
       }
 
   -- it does not
