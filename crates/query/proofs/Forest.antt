@@ -11,12 +11,12 @@ use lib.ListN.{length, drop}
 use Rattle.tsparql.specs.Query.{Pattern, Condition, Node, patternSet, join, leftJoin, union, filter, projectTrust, ensureTrust}
 use Rattle.tsparql.specs.Reading.{Read, got, fault, andThen, require, kindOf, lowOf, bits24, readPatterns, readCondition}
 use Rattle.tsparql.specs.Reading.{oneNode, twoNodes, afterCondition, boundedNode, nodeStep, readNode, readQuery, queryNode}
-use Rattle.tsparql.proofs.QuerySize.{conditionSize, nodeSize, nodeSize-positive}
+use Rattle.tsparql.proofs.QuerySize.{nodeSize-positive}
 use Rattle.tsparql.proofs.ReaderSteps.{readNode-step}
 use Rattle.tsparql.proofs.WrittenRead.{ReadsCondition, readCondition-sound, ReadsNode}
 use Rattle.tsparql.proofs.WrittenRead.{readNode-sound, PatternsFormed, Reads, readPatterns-sound}
 use Rattle.tsparql.specs.Lists.{concatMap}
-use Rattle.tsparql.specs.Writing.{patternBytes}
+use Rattle.tsparql.specs.Writing.{patternBytes, conditionSize, nodeSize}
 use Rattle.tsparql.specs.WellFormed.{NodeFormed}
 use Rattle.heads.specs.declared.Head.{Head}
 use Rattle.heads.specs.declared.Head.the-variants as H

@@ -7,7 +7,7 @@ use lib.ListN.{length, drop}
 use Rattle.tsparql.specs.Query.{Node, patternSet, join, leftJoin, union, filter, projectTrust, ensureTrust}
 use Rattle.tsparql.specs.Reading.{Read, got, fault, readNode}
 use Rattle.tsparql.specs.WellFormed.{NodeFormed}
-use Rattle.tsparql.proofs.QuerySize.{nodeSize}
+use Rattle.tsparql.specs.Writing.{nodeSize}
 use Rattle.heads.specs.declared.Head.{Head}
 use Rattle.heads.specs.declared.Head.the-variants as H
 use Rattle.query.specs.Answers.{nodeHead}

@@ -8,7 +8,7 @@ use lib.ListN.{length}
 use borrow.Author.Tests.{eqb-true}
 use Rattle.tsparql.specs.Check.{refuse, Passes, check}
 use Rattle.tsparql.specs.Table.{wholeTable}
-use Rattle.tsparql.specs.Calls.{ceilingRefused, ceilingAnswered, ceilingIn, ceilingCall}
+use Rattle.tsparql.specs.Calls.{ceilingRefused, ceilingAnswered, ceilingOver, ceilingCall}
 use Rattle.table.specs.Answers as T
 use Rattle.table.specs.declared.View.{View}
 use Rattle.table.specs.declared.TableAnswer.the-variants as TA
@@ -47,7 +47,7 @@ module _ (t s : List ℕ) (v : View) (h : T.Checked t (TA.Sound v)) where
 -- ---- ceiling
 
 pub ceiling-refuses : (t s : List ℕ) {n p : ℕ} → Checked t s (Refused n p) → ceilingRefused (refuse n p) ≡ ceilingCall t s
-unfolding ceilingIn
+unfolding ceilingOver
 ceiling-refuses t s h = ap ceilingRefused (h .refusal) ∙ sym (rw (sym (h .sound)))
 
 module _ (t s : List ℕ) (v : View) (h : Checked t s (Sound v)) where
@@ -67,7 +67,7 @@ module _ (t s : List ℕ) (v : View) (h : Checked t s (Sound v)) where
   ceiling-answers {c} {n} k =
       let a = checked-answered (viewOf v) t s (CR.Ceiling c n) passed k in
       let is : c ≡ a .ceiling = cc (a .answer) in
-      ap ceilingAnswered is ∙ sym (a .call) ∙ ap (λ w. ceilingIn w t s) view-whole
+      ap ceilingAnswered is ∙ sym (a .call) ∙ ap (λ w. ceilingOver w t s) view-whole
 
   pub ceiling-sound : {n p : ℕ} → CeilingIs (viewOf v) t s (CR.Refused n p) → ⊥
   ceiling-sound {n} {p} k =

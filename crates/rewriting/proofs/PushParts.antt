@@ -11,10 +11,9 @@ use lib.ListN.{length, take, length-append}
 use lib.Seq.{take-take, take-append-seam}
 use Rattle.tsparql.specs.Query.{Node, patternSet, join, leftJoin, union, filter, projectTrust, ensureTrust}
 use Rattle.tsparql.specs.Push.{TrustBound, noBound, between, push}
-use Rattle.tsparql.specs.Writing.{firstByte, threeBytes, conditionBytes, nodeBytes}
+use Rattle.tsparql.specs.Writing.{firstByte, threeBytes, conditionBytes, nodeBytes, nodeSize}
 use Rattle.tsparql.specs.Reading.{Read, got, fault, readNode}
 use Rattle.tsparql.specs.WellFormed.{Bytes}
-use Rattle.tsparql.proofs.QuerySize.{nodeSize}
 use Rattle.tsparql.proofs.WrittenRead.{ReadsNode, readNode-sound}
 use Rattle.heads.specs.declared.Head.{Head}
 use Rattle.heads.specs.declared.Head.the-variants as H

@@ -7,11 +7,10 @@ use native.Mathlib.Omega.{arith}
 use lib.ListN.{length, take, drop, length-append, length-drop}
 use lib.Seq.{length-take-le}
 use Rattle.tsparql.specs.Push.{TrustBound, push}
-use Rattle.tsparql.specs.Writing.{nodeBytes}
+use Rattle.tsparql.specs.Writing.{nodeBytes, nodeSize}
 use Rattle.tsparql.specs.Reading.{Read, got}
 use Rattle.tsparql.specs.WellFormed.{Bytes}
 use Rattle.tsparql.specs.Rewrite.{rewriteLimit}
-use Rattle.tsparql.proofs.QuerySize.{nodeSize}
 use Rattle.tsparql.proofs.PushQuery.{push-size-≤}
 use Rattle.heads.specs.declared.Head.{Head}
 use Rattle.heads.specs.Parts.{nodeOperands}

@@ -7,12 +7,11 @@ use native.Mathlib.Omega.{arith}
 use borrow.Rule.Slice.PartMut.{putMid}
 use lib.ListN.{length, take, drop, length-drop}
 use Rattle.tsparql.specs.Query.{Node, patternSet, join, leftJoin, union, filter, projectTrust, ensureTrust}
-use Rattle.tsparql.specs.Push.{TrustBound, push}
-use Rattle.tsparql.specs.Writing.{nodeBytes}
+use Rattle.tsparql.specs.Push.{TrustBound, push, BoundFormed}
+use Rattle.tsparql.specs.Writing.{nodeBytes, nodeSize}
 use Rattle.tsparql.specs.WellFormed.{NodeFormed}
 use Rattle.tsparql.specs.Rewrite.{rewriteLimit}
-use Rattle.tsparql.proofs.QuerySize.{nodeSize}
-use Rattle.tsparql.proofs.PushQuery.{BoundFormed, trustFloor-formed, meet-formed}
+use Rattle.tsparql.proofs.PushQuery.{trustFloor-formed, meet-formed}
 use Rattle.heads.specs.declared.Head.{Head}
 use Rattle.query.specs.Answers.{nodeHead}
 use Rattle.query.specs.Variables.{NodeSound, nodeOf}

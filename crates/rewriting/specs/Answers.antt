@@ -3,13 +3,12 @@ use mathlib.Core.Path.{_≡_}
 use mathlib.Core.List.{List}
 use Prim.Native.Nat.{ℕ, _+_, _≤_}
 use lib.ListN.{length}
-use Rattle.tsparql.specs.Push.{TrustBound, push}
+use Rattle.tsparql.specs.Push.{TrustBound, push, BoundFormed}
 use Rattle.tsparql.specs.Writing.{nodeBytes}
 use Rattle.tsparql.specs.Reading.{Read, got, fault}
 use Rattle.tsparql.specs.Check.{noRefusal, refuse}
 use Rattle.tsparql.specs.Rewrite as D
 use Rattle.tsparql.specs.Rewrite.{rewriteLimit, wroteNothing}
-use Rattle.tsparql.proofs.PushQuery.{BoundFormed}
 use Rattle.query.specs.Variables.{NodeSound, nodeOf}
 use Rattle.encoding.specs.Writers.{Wrote}
 use Rattle.rewriting.specs.declared.Pushed.{Pushed}

@@ -15,7 +15,8 @@ use Rattle.tsparql.specs.Check.{variablesOf, patternVariables, occurrences, cla
 use Rattle.tsparql.specs.Check.{refuse, clashes, firstClash}
 use Rattle.tsparql.proofs.ListLaws.{keepIf-append}
 use Rattle.tsparql.proofs.PushQuery.{projectVariables, trustProjections-variables}
-use Rattle.tsparql.proofs.QuerySize.{conditionSize, nodeSize, nodeSize-join, nodeSize-leftJoin, nodeSize-union, nodeSize-filter}
+use Rattle.tsparql.specs.Writing.{conditionSize, nodeSize}
+use Rattle.tsparql.proofs.QuerySize.{nodeSize-join, nodeSize-leftJoin, nodeSize-union, nodeSize-filter}
 use Rattle.tsparql.proofs.QuerySize.{nodeSize-projectTrust, nodeSize-ensureTrust}
 use Rattle.query.proofs.Forest.{operandsIn, operandsAt}
 use Rattle.scope.specs.Variables.{ownUses}

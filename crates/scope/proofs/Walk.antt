@@ -16,7 +16,8 @@ use Rattle.tsparql.specs.Reading.{Read, got, fault, readNode, queryNode}
 use Rattle.tsparql.specs.WellFormed.{NodeFormed}
 use Rattle.tsparql.specs.Check.{variablesOf, refuse, noRefusal, clashes, firstClash, trustProjections, variablesRefusal}
 use Rattle.tsparql.proofs.ListLaws.{and-left, and-right}
-use Rattle.tsparql.proofs.QuerySize.{nodeSize, nodeSize-positive}
+use Rattle.tsparql.specs.Writing.{nodeSize}
+use Rattle.tsparql.proofs.QuerySize.{nodeSize-positive}
 use Rattle.tsparql.proofs.WrittenRead.{ReadsNode, readNode-sound}
 use Rattle.query.specs.Answers.{nodeHead}
 use Rattle.heads.specs.declared.Head.{Head}

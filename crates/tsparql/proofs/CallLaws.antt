@@ -14,12 +14,12 @@ use Rattle.tsparql.specs.Ceiling.{greatest32, product, productFigure, ce
 use Rattle.tsparql.specs.Reading.{queryNode}
 use Rattle.tsparql.specs.Check.{Refusal, Passes, passes, tableRefusal, queryRefusal, evaluateLimit, check}
 use Rattle.tsparql.specs.Evaluate.{Evaluated, evaluateOver}
-use Rattle.tsparql.specs.Calls.{Tally, evaluate, ceilingAnswered, ceilingRefused, ceilingIn, ceilingCall}
+use Rattle.tsparql.specs.Calls.{Tally, evaluate, ceilingAnswered, ceilingRefused, ceilingOver, ceilingCall}
 use Rattle.tsparql.proofs.RefusalLaws.{orElse-cases}
 use Rattle.tsparql.proofs.TableLaws.{tableRefusal-cases}
 use Rattle.tsparql.proofs.QueryLaws.{query-checked, check-parts, queryRefusal-cases}
 use Rattle.tsparql.proofs.CeilingLaws.{ceiling-fits}
-use Rattle.tsparql.proofs.QuerySize.{nodeSize}
+use Rattle.tsparql.specs.Writing.{nodeSize}
 use Rattle.tsparql.proofs.SpaceLaws.{pairs-≤}
 use Rattle.tsparql.proofs.EvaluateLaws.{answer-cases, evaluate-cases, evaluate-answered, length-space, rows-peak-≤, rows-≤-ceiling}
 
@@ -75,21 +75,21 @@ evaluate-fits a t s ws =
 -- ---- ceiling
 
 module _ (v : View) (t s : List ℕ) where
-  pub ceiling-checked : Passes (check t s) → ceilingIn v t s ≡ ceilingAnswered (ceilingOf (productFigure (factsIn v t)) (queryNode s))
-  unfolding ceilingIn
+  pub ceiling-checked : Passes (check t s) → ceilingOver v t s ≡ ceilingAnswered (ceilingOf (productFigure (factsIn v t)) (queryNode s))
+  unfolding ceilingOver
   ceiling-checked z = rw (eq-eqb (check t s .number) 0 z)
 
-  pub ceiling-refused : (Passes (check t s) → ⊥) → ceilingIn v t s ≡ ceilingRefused (check t s)
-  unfolding ceilingIn
+  pub ceiling-refused : (Passes (check t s) → ⊥) → ceilingOver v t s ≡ ceilingRefused (check t s)
+  unfolding ceilingOver
   ceiling-refused z = rw (ne-eqb (check t s .number) 0 z)
 
   -- number and place are the check's, and the ceiling fits in 32 bits
-  pub ceiling-call-fits : (ceilingIn v t s .refusal .number ≤ 7) × (ceilingIn v t s .refusal .place ≤ 65534)
-      × (ceilingIn v t s .ceiling ≤ greatest32)
+  pub ceiling-call-fits : (ceilingOver v t s .refusal .number ≤ 7) × (ceilingOver v t s .refusal .place ≤ 65534)
+      × (ceilingOver v t s .ceiling ≤ greatest32)
   ceiling-call-fits = go (passes (check t s)) refl
     where
       go : (b : Bool) → passes (check t s) ≡ b
-          → (ceilingIn v t s .refusal .number ≤ 7) × (ceilingIn v t s .refusal .place ≤ 65534) × (ceilingIn v t s .ceiling ≤ greatest32)
+          → (ceilingOver v t s .refusal .number ≤ 7) × (ceilingOver v t s .refusal .place ≤ 65534) × (ceilingOver v t s .ceiling ≤ greatest32)
       go true e =
           let fs = factsIn v t in
           rw (ceiling-checked (eqb-true (check t s .number) 0 e))

@@ -26,7 +26,7 @@ use Rattle.tsparql.specs.Check.{refuse, noRefusal, passes, recordRefusal
 use Rattle.tsparql.specs.Check.{variablesRefusal, queryRefusal, check}
 use Rattle.tsparql.specs.Evaluate.{rowLength, trustWord, rowWords, capacity, Evaluated, refusedWith, answeredWith, answer, evaluateOver}
 use Rattle.tsparql.specs.Rewrite.{rewriting, rewriteRefusal, rewrite}
-use Rattle.tsparql.specs.Calls.{evaluateUntallied, ceilingIn, ceilingCall, Tally, tallied, run}
+use Rattle.tsparql.specs.Calls.{evaluateUntallied, ceilingOver, ceilingCall, Tally, tallied, run}
 use Rattle.tsparql.specs.Strikes.{ascii, digits, decimal, rowLine, refusedLine, countsLine, report, factsLimit, programRows, strikes}
 
 -- ---- hexadecimal
@@ -450,7 +450,7 @@ unfolding trustProjections patternVariables variablesRefusal queryRefusal check 
 calls = tt
 
 figures : Unit {0}
-unfolding matching product ceilingOf ceilingIn tallied run
+unfolding matching product ceilingOf ceilingOver tallied run
 figures = tt
 
 text : Unit {0}

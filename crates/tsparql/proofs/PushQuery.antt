@@ -10,12 +10,12 @@ use borrow.Author.Tests.{ltb-false, le-ltb}
 use lib.Dec.{ltb}
 use lib.ListN.{length}
 use Rattle.tsparql.specs.Query.{Node, patternSet, join, leftJoin, union, filter, projectTrust, ensureTrust}
-use Rattle.tsparql.specs.Push.{TrustBound, noBound, between, meet, trustFloor, wrap, wrapBelow, push}
-use Rattle.tsparql.specs.Writing.{conditionBytes, nodeBytes}
+use Rattle.tsparql.specs.Push.{TrustBound, noBound, between, meet, trustFloor, wrap, wrapBelow, push, BoundFormed}
+use Rattle.tsparql.specs.Writing.{conditionBytes, nodeBytes, nodeSize}
 use Rattle.tsparql.specs.Check.{TrustProjection, projectedVariable, trustProjections, patternVariables}
 use Rattle.tsparql.proofs.ListLaws.{map-append}
 use Rattle.tsparql.proofs.PushRows.{wrap-pass, wrapBelow-pass}
-use Rattle.tsparql.proofs.QuerySize.{nodeSize, nodeSize-positive, nodeSize-join, nodeSize-leftJoin, nodeSize-union, nodeSize-filter}
+use Rattle.tsparql.proofs.QuerySize.{nodeSize-positive, nodeSize-join, nodeSize-leftJoin, nodeSize-union, nodeSize-filter}
 use Rattle.tsparql.proofs.QuerySize.{nodeSize-projectTrust, nodeSize-ensureTrust}
 use Rattle.tsparql.specs.WellFormed.{NodeFormed}
 
@@ -136,10 +136,6 @@ projectVariables-push b (projectTrust v x) = ap (λ (r : List ℕ). v ∷ r) (pr
 projectVariables-push b (ensureTrust m w x) = projectVariables-push (meet b m w) x
 
 -- ---- well-formed
-
-abbrev pub BoundFormed : TrustBound → Type 0
-BoundFormed noBound = Unit {0}
-BoundFormed (between l u) = (l ≤ 2000) × (u ≤ 2000)
 
 pub trustFloor-formed : (b : TrustBound) → BoundFormed b → BoundFormed (trustFloor b)
 trustFloor-formed noBound h = tt

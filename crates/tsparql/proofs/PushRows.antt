@@ -9,13 +9,13 @@ use native.Mathlib.Omega.{arith}
 use borrow.Author.Tests.{ltb-false}
 use lib.Dec.{ltb}
 use Rattle.tsparql.specs.Lists.{keepIf}
-use Rattle.tsparql.specs.Values.{SoundRow, Row, withTrust, trustInside}
+use Rattle.tsparql.specs.Values.{Row, withTrust, trustInside}
 use Rattle.tsparql.specs.Query.{Pattern, Condition, Node, patternSet, join, leftJoin, union, filter, projectTrust, ensureTrust}
 use Rattle.tsparql.specs.Conditions.{trueOn}
 use Rattle.tsparql.specs.Rows.{merges, joinRows, leftRow, rowsOf, countOf, spaceOf, pairsOf}
-use Rattle.tsparql.specs.Push.{TrustBound, noBound, between, keep, meet, trustFloor, wrap, wrapBelow, push}
+use Rattle.tsparql.specs.Push.{TrustBound, noBound, between, meet, trustFloor, wrap, wrapBelow, push}
 use Rattle.tsparql.proofs.ListLaws.{every-append, every-keepIf, every-map, length-keepIf, length-concatMap-keepIf}
-use Rattle.tsparql.proofs.RowLaws.{SoundRows, joinRows-sound, leftJoinRows-sound, joinRows-keep, leftJoinRows-keep}
+use Rattle.tsparql.proofs.RowLaws.{SoundRow, SoundRows, keep, joinRows-sound, leftJoinRows-sound, joinRows-keep, leftJoinRows-keep}
 use Rattle.tsparql.proofs.RowLaws.{keepIf-floor, keepIf-high, keep-meet, keep-append, keep-keepIf, keep-project, length-keep}
 
 -- ---- a figure that passes over ensure trust nodes passes over the wrapping too

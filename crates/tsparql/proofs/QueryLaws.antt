@@ -13,7 +13,7 @@ use lib.ListN.{length}
 use Rattle.tsparql.specs.Lists.{Every, keepIf}
 use Rattle.tsparql.specs.Query.{Node, patternSet, join, leftJoin, union, filter, projectTrust, ensureTrust}
 use Rattle.tsparql.specs.Push.{TrustBound, noBound, push}
-use Rattle.tsparql.specs.Writing.{nodeBytes}
+use Rattle.tsparql.specs.Writing.{nodeBytes, conditionSize, nodeSize}
 use Rattle.tsparql.specs.Reading.{Read, got, fault, readQuery, foundNode, queryNode}
 use Rattle.tsparql.specs.Check.{Refusal, refuse, noRefusal, refuseIf, Passes, orElse}
 use Rattle.tsparql.specs.Check.{TrustProjection, projectedVariable, trustProjections}
@@ -22,7 +22,7 @@ use Rattle.tsparql.specs.Check.{tableRefusal, queryRefusal, evaluateLimi
 use Rattle.tsparql.specs.Rewrite.{rewriteLimit, rewriting}
 use Rattle.tsparql.proofs.ListLaws.{every-append, every-keepIf, keepIf-map}
 use Rattle.tsparql.proofs.RefusalLaws.{orElse-passes, refuseIf-passes}
-use Rattle.tsparql.proofs.QuerySize.{conditionSize, nodeSize, nodeSize-positive, nodeSize-join, nodeSize-leftJoin}
+use Rattle.tsparql.proofs.QuerySize.{nodeSize-positive, nodeSize-join, nodeSize-leftJoin}
 use Rattle.tsparql.proofs.QuerySize.{nodeSize-union, nodeSize-filter, nodeSize-projectTrust, nodeSize-ensureTrust}
 use Rattle.tsparql.specs.WellFormed.{Bytes, NodeFormed}
 use Rattle.tsparql.proofs.ReadWritten.{readQuery-written}

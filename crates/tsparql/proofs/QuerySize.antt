@@ -6,12 +6,9 @@ use native.Mathlib.Omega.{arith}
 use lib.ListN.{length, length-append}
 use Rattle.tsparql.specs.Query.{Condition, bound, same, isTerm, less, negation, conjunction, disjunction, always}
 use Rattle.tsparql.specs.Query.{Node, patternSet, join, leftJoin, union, filter, projectTrust, ensureTrust}
-use Rattle.tsparql.specs.Writing.{conditionBytes, nodeBytes}
+use Rattle.tsparql.specs.Writing.{conditionBytes, nodeBytes, conditionSize, nodeSize}
 
 -- ---- conditions
-
-abbrev pub conditionSize : Condition → ℕ
-conditionSize c = length (conditionBytes c)
 
 -- a condition is written as one byte at least
 pub conditionSize-positive : (c : Condition) → 1 ≤ conditionSize c
@@ -26,9 +23,6 @@ conditionSize-positive (disjunction c d) = omega arith
 conditionSize-positive always = omega arith
 
 -- ---- nodes
-
-abbrev pub nodeSize : Node → ℕ
-nodeSize q = length (nodeBytes q)
 
 pub nodeSize-join : (x y : Node) → nodeSize (join x y) ≡ suc (nodeSize x + nodeSize y)
 unfolding nodeBytes

@@ -16,11 +16,10 @@ use Rattle.tsparql.specs.Lists.{Every, concatMap}
 use Rattle.tsparql.specs.Query.{Slot, aTerm, aVariable, Pattern}
 use Rattle.tsparql.specs.Query.{Condition, bound, same, isTerm, less, negation, conjunction, disjunction, always}
 use Rattle.tsparql.specs.Query.{Node, patternSet, join, leftJoin, union, filter, projectTrust, ensureTrust}
-use Rattle.tsparql.specs.Writing.{firstByte, threeBytes, slotNumber, patternBytes, conditionBytes, nodeBytes}
+use Rattle.tsparql.specs.Writing.{firstByte, threeBytes, slotNumber, patternBytes, conditionBytes, nodeBytes, conditionSize, nodeSize}
 use Rattle.tsparql.specs.Reading.{Read, got, andThen, bits24, termSound, slotSound, slotOf, readPattern, readPatterns}
 use Rattle.tsparql.specs.Reading.{twoVariables, conditionStep, readCondition}
 use Rattle.tsparql.specs.Reading.{afterCondition, nodeStep, readNode, readQuery}
-use Rattle.tsparql.proofs.QuerySize.{conditionSize, nodeSize}
 use Rattle.tsparql.proofs.ReaderSteps.{readCondition-step, readNode-step}
 use Rattle.tsparql.specs.WellFormed.{TermFormed, SlotFormed, PatternFormed, ConditionFormed, NodeFormed}
 

@@ -9,14 +9,14 @@ use lib.ListN.{length}
 use Rattle.tsparql.specs.Lists.{consIf, keepIf}
 use Rattle.tsparql.specs.Ceiling.{greatest32}
 use Rattle.tsparql.specs.Check.{Refusal, passes}
-use Rattle.tsparql.specs.Calls.{Tally, raiseOne, tallied, Request, requestRefusal, answeredIn, refusedIn, zeroTally, run}
+use Rattle.tsparql.specs.Calls.{Tally, raiseOne, tallied, Request, requestRefusal, answeredCount, refusedCount, zeroTally, run}
 
 -- every request is answered or refused
-counted-all : (es : List Request) → answeredIn es + refusedIn es ≡ length es
+counted-all : (es : List Request) → answeredCount es + refusedCount es ≡ length es
 counted-all [] = refl
 counted-all (e ∷ es) = go (passes (requestRefusal e)) (counted-all es)
   where
-    go : (b : Bool) → answeredIn es + refusedIn es ≡ length es
+    go : (b : Bool) → answeredCount es + refusedCount es ≡ length es
         → length (consIf b e (keepIf (λ d. passes (requestRefusal d)) es))
         + length (consIf (not b) e (keepIf (λ d. not (passes (requestRefusal d))) es))
         ≡ suc (length es)
@@ -25,8 +25,8 @@ counted-all (e ∷ es) = go (passes (requestRefusal e)) (counted-all es)
 
 -- b shows the counts of a, each raised once for each of its requests, and stopped at the greatest value
 pub record Counted (a b : Tally) (es : List Request) : Type 0 where
-  pub answered-is : b .answered ≡ min (a .answered + answeredIn es) greatest32
-  pub refused-is : b .refused ≡ min (a .refused + refusedIn es) greatest32
+  pub answered-is : b .answered ≡ min (a .answered + answeredCount es) greatest32
+  pub refused-is : b .refused ≡ min (a .refused + refusedCount es) greatest32
 
 -- one request raises one of the two counts
 tallied-counts : (a : Tally) (e : Request) → a .answered ≤ greatest32 → a .refused ≤ greatest32
@@ -39,17 +39,17 @@ tallied-counts a e h k = record { answered-is = go (passes (requestRefusal e)) .
     go true = (omega arith, omega arith)
     go false = (omega arith, omega arith)
 
-answeredIn-cons : (e : Request) (es : List Request) → answeredIn (e ∷ es) ≡ answeredIn (e ∷ []) + answeredIn es
-answeredIn-cons e es = go (passes (requestRefusal e))
+answeredCount-cons : (e : Request) (es : List Request) → answeredCount (e ∷ es) ≡ answeredCount (e ∷ []) + answeredCount es
+answeredCount-cons e es = go (passes (requestRefusal e))
   where
-    go : (b : Bool) → length (consIf b e (keepIf (λ d. passes (requestRefusal d)) es)) ≡ length (consIf b e []) + answeredIn es
+    go : (b : Bool) → length (consIf b e (keepIf (λ d. passes (requestRefusal d)) es)) ≡ length (consIf b e []) + answeredCount es
     go true = omega arith
     go false = omega arith
 
-refusedIn-cons : (e : Request) (es : List Request) → refusedIn (e ∷ es) ≡ refusedIn (e ∷ []) + refusedIn es
-refusedIn-cons e es = go (not (passes (requestRefusal e)))
+refusedCount-cons : (e : Request) (es : List Request) → refusedCount (e ∷ es) ≡ refusedCount (e ∷ []) + refusedCount es
+refusedCount-cons e es = go (not (passes (requestRefusal e)))
   where
-    go : (b : Bool) → length (consIf b e (keepIf (λ d. not (passes (requestRefusal d))) es)) ≡ length (consIf b e []) + refusedIn es
+    go : (b : Bool) → length (consIf b e (keepIf (λ d. not (passes (requestRefusal d))) es)) ≡ length (consIf b e []) + refusedCount es
     go true = omega arith
     go false = omega arith
 
@@ -62,13 +62,13 @@ run-counts a (e ∷ es) h k =
     let first = tallied-counts a e h k in
     let rest = run-counts b es (omega (arith, first .answered-is)) (omega (arith, first .refused-is)) in
     record {
-      answered-is = omega (arith, first .answered-is, rest .answered-is, answeredIn-cons e es);
-      refused-is = omega (arith, first .refused-is, rest .refused-is, refusedIn-cons e es);
+      answered-is = omega (arith, first .answered-is, rest .answered-is, answeredCount-cons e es);
+      refused-is = omega (arith, first .refused-is, rest .refused-is, refusedCount-cons e es);
     }
 
 -- begun at zero, while neither has stopped, the counts together are the evaluations, and answered is how many were answered
 pub tally-run : (es : List Request) → (run zeroTally es .answered ≡ greatest32 → ⊥) → (run zeroTally es .refused ≡ greatest32 → ⊥)
-    → (run zeroTally es .answered + run zeroTally es .refused ≡ length es) × (run zeroTally es .answered ≡ answeredIn es)
+    → (run zeroTally es .answered + run zeroTally es .refused ≡ length es) × (run zeroTally es .answered ≡ answeredCount es)
 tally-run es h k =
     let c = run-counts zeroTally es (omega arith) (omega arith) in
     (omega (arith, c .answered-is, c .refused-is, counted-all es), omega (arith, c .answered-is))

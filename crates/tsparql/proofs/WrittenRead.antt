@@ -18,14 +18,13 @@ use Rattle.tsparql.specs.Lists.{Every, concatMap}
 use Rattle.tsparql.specs.Query.{Slot, aTerm, aVariable, Pattern}
 use Rattle.tsparql.specs.Query.{Condition, same, less, negation, conjunction, disjunction, always}
 use Rattle.tsparql.specs.Query.{Node, join, leftJoin, union, filter, projectTrust, ensureTrust}
-use Rattle.tsparql.specs.Writing.{firstByte, threeBytes, slotNumber, patternBytes, conditionBytes, nodeBytes}
+use Rattle.tsparql.specs.Writing.{firstByte, threeBytes, slotNumber, patternBytes, conditionBytes, nodeBytes, nodeSize}
 use Rattle.tsparql.specs.Reading.{Read, got, fault, andThen, require, kindOf, lowOf, lowZero, bits24}
 use Rattle.tsparql.specs.Reading.{termSound, slotSound, slotOf, readPattern, readPatterns}
 use Rattle.tsparql.specs.Reading.{twoVariables, variableTerm, conditionStep, readConditionIn, readCondition}
 use Rattle.tsparql.specs.Reading.{nPatterns, oneNode, twoNodes, afterCondition, boundedNode, nodeStep, readNodeIn, readNode}
 use Rattle.tsparql.specs.Reading.{wholeQuery, readQuery}
 use Rattle.tsparql.proofs.ListLaws.{and-left, and-right, or-right}
-use Rattle.tsparql.proofs.QuerySize.{nodeSize}
 use Rattle.tsparql.specs.WellFormed.{Bytes, TermFormed, SlotFormed, PatternFormed, ConditionFormed, NodeFormed}
 
 -- ---- bytes and parts

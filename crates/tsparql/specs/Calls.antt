@@ -56,15 +56,16 @@ abbrev pub requestRefusal : Request → Refusal
 requestRefusal e = evaluateUntallied (e .table) (e .query) (e .rowSpace) .refusal
 
 -- how many requests of a list are answered, and how many refused
-abbrev pub answeredIn : List Request → ℕ
-answeredIn es = length (keepIf (λ e. passes (requestRefusal e)) es)
+abbrev pub answeredCount : List Request → ℕ
+answeredCount es = length (keepIf (λ e. passes (requestRefusal e)) es)
 
-abbrev pub refusedIn : List Request → ℕ
-refusedIn es = length (keepIf (λ e. not (passes (requestRefusal e))) es)
+abbrev pub refusedCount : List Request → ℕ
+refusedCount es = length (keepIf (λ e. not (passes (requestRefusal e))) es)
 
 abbrev pub zeroTally : Tally
 zeroTally = record { answered = 0; refused = 0 }
 
+-- the tally at the end of a run
 unfoldable pub run : Tally → List Request → Tally
 run a [] = a
 run a (e ∷ es) = run (evaluate a (e .table) (e .query) (e .rowSpace) .tally) es
@@ -82,11 +83,11 @@ abbrev pub ceilingRefused : Refusal → CeilingAnswer
 ceilingRefused r = record { refusal = r; ceiling = 0 }
 
 -- refusals as in check, with ceiling 0
-unfoldable pub ceilingIn : View → List ℕ → List ℕ → CeilingAnswer
-ceilingIn v t s =
+unfoldable pub ceilingOver : View → List ℕ → List ℕ → CeilingAnswer
+ceilingOver v t s =
     let r = check t s in
     cond (passes r) (ceilingAnswered (ceilingOf (productFigure (factsIn v t)) (queryNode s))) (ceilingRefused r)
 
 -- the call
 abbrev pub ceilingCall : List ℕ → List ℕ → CeilingAnswer
-ceilingCall t s = ceilingIn (wholeTable t) t s
+ceilingCall t s = ceilingOver (wholeTable t) t s

@@ -62,6 +62,7 @@ unfoldable pub recordsRefusal : List ℕ → ℕ → ℕ → Refusal
 recordsRefusal t i zero = noRefusal
 recordsRefusal t i (suc n) = let later = recordsRefusal t (suc i) n in orElse (recordRefusal t i) later
 
+-- 1, then 2, then 3 and 4 record by record
 unfoldable pub tableRefusal : List ℕ → Refusal
 tableRefusal t =
     let records = length t / recordLength in
@@ -123,6 +124,7 @@ abbrev pub firstClash : List TrustProjection → Refusal
 firstClash [] = noRefusal
 firstClash (p ∷ ps) = refuse 7 (p .place)
 
+-- 7 at the first clash
 unfoldable pub variablesRefusal : Node → Refusal
 variablesRefusal q = firstClash (keepIf (clashes q) (trustProjections 0 q))
 

@@ -1,11 +1,8 @@
 -- The paper's push: a bound on trust carried down from the root (document 01, "Rewrite"), the field's selection push-down.
 -- Bounds stand plus 1000. Assumes nothing.
 use mathlib.Core.Bool.{cond}
-use mathlib.Core.List.{List}
-use Prim.Native.Nat.{ℕ, max, min}
+use Prim.Native.Nat.{ℕ, _≤_, max, min}
 use lib.Dec.{ltb}
-use Rattle.tsparql.specs.Lists.{keepIf}
-use Rattle.tsparql.specs.Values.{Row, trustInside}
 use Rattle.tsparql.specs.Query.{Node, patternSet, join, leftJoin, union, filter, projectTrust, ensureTrust}
 
 -- none, or (l, u)
@@ -13,10 +10,10 @@ pub data TrustBound : Type 0 where
   noBound : TrustBound
   between : ℕ → ℕ → TrustBound
 
--- the rows that a bound keeps
-abbrev pub keep : TrustBound → List Row → List Row
-keep noBound rs = rs
-keep (between l u) rs = keepIf (trustInside l u) rs
+-- l and u are at most 1000
+abbrev pub BoundFormed : TrustBound → Type 0
+BoundFormed noBound = Unit {0}
+BoundFormed (between l u) = (l ≤ 2000) × (u ≤ 2000)
 
 -- the bound that the operand of ensure trust (m, w) gets
 abbrev pub meet : TrustBound → ℕ → ℕ → TrustBound
@@ -38,6 +35,7 @@ abbrev pub wrapBelow : TrustBound → Node → Node
 wrapBelow noBound q = q
 wrapBelow (between l u) q = cond (ltb u 2000) (ensureTrust l u q) q
 
+-- the node with a bound carried down from above it
 unfoldable pub push : TrustBound → Node → Node
 push b (patternSet ps) = wrap b (patternSet ps)
 push b (join x y) = wrapBelow b (join (push (trustFloor b) x) (push (trustFloor b) y))

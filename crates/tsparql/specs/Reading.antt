@@ -91,6 +91,7 @@ module _ (again : List ℕ → Read Condition) (s : List ℕ) where
       require (lowZero s)
       (andThen 1 (again (drop 1 s)) (λ c at. andThen at (again (drop at s)) (λ d next. got (f c d) next)))
 
+  -- the condition of a part, by its kind
   unfoldable pub conditionStep : Read Condition
   conditionStep =
       cond (eqb (length s) 0) (fault 0)
@@ -140,6 +141,7 @@ module _ (again : List ℕ → Read Node) (s : List ℕ) where
       require (leb 4 (length s) && leb (bits24 s 1 / 4096) 2000 && leb (bits24 s 1 % 4096) 2000)
       (oneNode 4 (ensureTrust (bits24 s 1 / 4096) (bits24 s 1 % 4096)))
 
+  -- the node of a part, by its kind
   unfoldable pub nodeStep : Read Node
   nodeStep =
       cond (eqb (length s) 0) (fault 0)
@@ -167,6 +169,7 @@ readNode s = readNodeIn (length s) s
 abbrev pub wholeQuery : List ℕ → Node → ℕ → Read Node
 wholeQuery s q next = cond (eqb next (length s)) (got q next) (fault next)
 
+-- one node, and nothing behind it
 unfoldable pub readQuery : List ℕ → Read Node
 readQuery s = andThen 0 (readNode s) (wholeQuery s)
 

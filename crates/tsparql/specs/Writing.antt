@@ -45,3 +45,10 @@ nodeBytes (union x y) = firstByte 3 0 ∷ (nodeBytes x ++ nodeBytes y)
 nodeBytes (filter c x) = firstByte 4 0 ∷ (conditionBytes c ++ nodeBytes x)
 nodeBytes (projectTrust v x) = firstByte 5 v ∷ nodeBytes x
 nodeBytes (ensureTrust l u x) = firstByte 6 0 ∷ (threeBytes (4096 * l + u) ++ nodeBytes x)
+
+-- how many bytes a condition and a node are written as
+abbrev pub conditionSize : Condition → ℕ
+conditionSize c = length (conditionBytes c)
+
+abbrev pub nodeSize : Node → ℕ
+nodeSize q = length (nodeBytes q)

@@ -10,9 +10,8 @@ use borrow.Fn.PlainCycle.{Measures, is, falls, and}
 use borrow.Rule.Slice.PartMut.{putMid}
 use lib.ListN.{length, take, drop, length-append}
 use Rattle.tsparql.specs.Push.{TrustBound, push}
-use Rattle.tsparql.specs.Writing.{nodeBytes}
+use Rattle.tsparql.specs.Writing.{nodeBytes, nodeSize}
 use Rattle.tsparql.specs.WellFormed.{Bytes}
-use Rattle.tsparql.proofs.QuerySize.{nodeSize}
 use Rattle.heads.specs.declared.Head.{Head}
 use Rattle.heads.specs.Answers.{nodeFound}
 use Rattle.heads.specs.Parts.{nodeOperands}

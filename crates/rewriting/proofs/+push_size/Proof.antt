@@ -9,7 +9,7 @@ use borrow.Fn.PlainCycle.{Measures, is, falls, and}
 use lib.ListN.{length, drop}
 use Rattle.tsparql.specs.Push.{TrustBound, push}
 use Rattle.tsparql.specs.Rewrite.{rewriteLimit}
-use Rattle.tsparql.proofs.QuerySize.{nodeSize}
+use Rattle.tsparql.specs.Writing.{nodeSize}
 use Rattle.heads.specs.declared.Head.{Head}
 use Rattle.heads.specs.Answers.{nodeFound}
 use Rattle.heads.specs.Parts.{nodeOperands}
