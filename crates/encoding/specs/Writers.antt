@@ -54,10 +54,11 @@ conditionHeadBytes C.And = firstBytes 5 0
 conditionHeadBytes C.Or = firstBytes 6 0
 conditionHeadBytes C.True = firstBytes 7 0
 
--- slots of 24 bits, one behind the other
+-- each slot has at most 24 bits
 abbrev pub SlotsSmall : Pattern → Type 0
 SlotsSmall p = (p .subject < 16777216) × (p .predicate < 16777216) × (p .object < 16777216)
 
+-- three slots of 24 bits, one behind the other
 abbrev pub slotsBytes : Pattern → List ℕ
 slotsBytes p = threeBytes (p .subject) ++ (threeBytes (p .predicate) ++ threeBytes (p .object))
 

@@ -1,5 +1,5 @@
 -- The worked cases of document 01 and some more, as one table about the definitions with one proof, by computation.
--- An entry has what the definitions give on its left and what the paper says on its right, worked out by hand (texts go through
+-- An entry has what the definitions give on its left and what document 01 says on its right, worked out by hand (texts go through
 -- `ascii`, and one printout stands in numbers). Groups: cases 1 to 9; rows, order and trust; push; conditions; ceilings and tallies;
 -- refusals and their places. Inputs are in hexadecimal. Printouts are computed by a form of `strikes` that works nothing out twice.
 -- Assumes nothing.
@@ -172,7 +172,7 @@ pub expected : Case → List ℕ
 expected (x gives y) = y
 expected (t with s prints y) = y
 
--- cases 1 to 9 of the paper
+-- cases 1 to 9 of document 01
 paperCases : List Case
 paperCases =
     -- 1
@@ -205,7 +205,7 @@ paperCases =
 -- order, trust, shortcuts, conditions, words
 moreCases : List Case
 moreCases =
-    -- the paper's record: (1, 10, 11) with trust 900; and the last of W, whose trust is unknown
+    -- document 01's record: (1, 10, 11) with trust 900; and the last of W, whose trust is unknown
     (fields (hex "00 00 10 00 0A 00 00 BF 6C") gives 1 ∷ 10 ∷ 11 ∷ 1900 ∷ [])
     ∷ (fields (hex "00 00 20 00 14 00 01 50 00") gives 2 ∷ 20 ∷ 21 ∷ 2001 ∷ [])
     -- the greatest trust, 1000, is sound

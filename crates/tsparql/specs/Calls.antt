@@ -1,4 +1,4 @@
--- The calls evaluate and ceiling as a caller sees them, and the paper's tally (document 01, "Ceiling and tally").
+-- The calls evaluate and ceiling as a caller sees them, and the tally (document 01, "Ceiling and tally").
 -- The calls check and rewrite stand in Check and Rewrite. Assumes nothing.
 use mathlib.Core.Bool.{Bool, true, false, not, cond}
 use mathlib.Core.List.{List, [], _∷_}

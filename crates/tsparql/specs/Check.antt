@@ -1,4 +1,4 @@
--- The check of a table and a query (document 01, "Check"): refusals 1 to 7 and their places, in the paper's order.
+-- The check of a table and a query (document 01, "Check"): refusals 1 to 7 and their places, in its order.
 -- Where the first fault of a query is, refusal 6, is said by the readers (Reading). Assumes nothing.
 use mathlib.Core.Path.{_≡_}
 use mathlib.Core.Bool.{Bool, true, _||_, not, cond}

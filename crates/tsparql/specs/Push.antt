@@ -1,4 +1,4 @@
--- The paper's push: a bound on trust carried down from the root (document 01, "Rewrite"), the field's selection push-down.
+-- Push: a bound on trust carried down from the root (document 01, "Rewrite"), the field's selection push-down.
 -- Bounds stand plus 1000. Assumes nothing.
 use mathlib.Core.Bool.{cond}
 use Prim.Native.Nat.{ℕ, _≤_, max, min}

@@ -41,7 +41,7 @@ wroteNothing r out = record { refusal = r; size = 0; output = out }
 unfoldable pub rewrite : List ℕ → List ℕ → Rewritten
 rewrite s out = let r = rewriteRefusal s (length out) in cond (passes r) (wroteInto (rewriting s) out) (wroteNothing r out)
 
--- the paper's accepted: the rewriting into this output does not refuse the query
+-- accepted, in document 01's sense: the rewriting into this output does not refuse the query
 abbrev pub Accepted : List ℕ → List ℕ → Type 0
 Accepted s out = Passes (rewrite s out .refusal)
 
