@@ -1,5 +1,6 @@
 -- Words and what they stand for. Reading what was written gives the value (for a sound trust and a formed cell), writing what was read
--- gives the word (up to 2001 and 1,050,577), what is read is always sound and formed, and values in range are fixed by what they stand for. By cases on the tests. Assumes nothing.
+-- gives the word (up to 2001 and 1,050,577), what is read is always sound and formed, and values in range are fixed by what they stand
+-- for. By cases on the tests. Assumes nothing.
 use mathlib.Core.Bool.{Bool, true, false, cond}
 use mathlib.Core.Path.{_≡_, refl, ap}
 use Prim.Native.Nat.{ℕ, _+_, _-_, _≤_}

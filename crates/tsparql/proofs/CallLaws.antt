@@ -89,7 +89,8 @@ module _ (v : View) (t s : List ℕ) where
   ceiling-call-fits = go (passes (check t s)) refl
     where
       go : (b : Bool) → passes (check t s) ≡ b
-          → (ceilingOver v t s .refusal .number ≤ 7) × (ceilingOver v t s .refusal .place ≤ 65534) × (ceilingOver v t s .ceiling ≤ greatest32)
+          → (ceilingOver v t s .refusal .number ≤ 7) × (ceilingOver v t s .refusal .place ≤ 65534)
+          × (ceilingOver v t s .ceiling ≤ greatest32)
       go true e =
           let fs = factsIn v t in
           rw (ceiling-checked (eqb-true (check t s .number) 0 e))

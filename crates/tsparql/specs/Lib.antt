@@ -1,4 +1,5 @@
--- The definitions of document 01, and at the end those of document 000 that they are compared with, to be read in this order. Each file says what it holds and where the rest is.
+-- The definitions of document 01, to be read in this order; the last file has those of document 000 that they are compared with. Each
+-- file says what it holds and where the rest is.
 pub mod Lists
 pub mod Values
 pub mod Query

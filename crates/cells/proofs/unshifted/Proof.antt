@@ -1,4 +1,4 @@
--- `unshifted` answers the trust whose shifted number was given: the difference with 1000, shifted, is the number, and it is in range (ShiftLaws).
+-- `unshifted` answers the trust whose shifted number was given: the difference with 1000, shifted, is the number, and it is in range.
 use borrow.Author.Needs.{needs}
 use Rattle.cells.proofs.ShiftLaws.{less-fits, shift-bits, range-bits}
 use Rattle.cells.proofs.unshifted.Statement.{statement}
