@@ -1,16 +1,16 @@
 -- The text of a number, and of a word's trust or cell, by the tests that code makes. Assumes nothing.
-use mathlib.Core.Path.{_≡_, refl, _∙_}
-use mathlib.Core.Bool.{Bool, true, false, not, cond}
+use mathlib.Core.Path.{_≡_, _∙_}
+use mathlib.Core.Bool.{Bool, false, not}
 use mathlib.Core.List.{[], _∷_, _++_}
 use Prim.Native.Nat.{ℕ, _+_, _-_, _/_, _%_, _≤_, _<_}
 use native.Mathlib.Omega.{arith}
 use borrow.Author.Tests.{le-leb, lt-leb, lt-ltb, le-ltb, eq-eqb, ne-eqb}
-use lib.Dec.{ltb}
 use Rattle.tsparql.specs.Lists.{onlyIf}
-use Rattle.tsparql.specs.Values.{term, trusted, isFree}
+use Rattle.tsparql.specs.Values.{isFree}
 use Rattle.tsparql.specs.Strikes.{ascii, decimal, trustText, valueText, cellText}
 use Rattle.tsparql.proofs.TextLaws.{decimal-step}
 use Rattle.cells.specs.Words.{wordTrust, wordCell}
+use Rattle.rows.proofs.OperatorLaws.{word-set}
 
 -- ---- numbers
 
@@ -42,16 +42,9 @@ trusted-text w h = rw (ne-eqb w 0 (λ e. omega arith), le-ltb w 1048576 h)
 pub free-text : (v w : ℕ) → w ≡ 0 → cellText v (wordCell w) ≡ []
 free-text v w e = rw (eq-eqb w 0 e)
 
-set-free : (w : ℕ) → (w ≡ 0 → ⊥) → isFree (wordCell w) ≡ false
-set-free w h = rw (ne-eqb w 0 h) (go (ltb w 1048576))
-  where
-    go : (b : Bool) → isFree (cond b (term w) (trusted (wordTrust (w - 1048576)))) ≡ false
-    go true = refl
-    go false = refl
-
 pub set-text : (v w : ℕ) → (w ≡ 0 → ⊥)
     → cellText v (wordCell w) ≡ ascii " ?" ++ (decimal v ++ (ascii "=" ++ valueText (wordCell w)))
-set-text v w h = go (isFree (wordCell w)) (set-free w h)
+set-text v w h = go (isFree (wordCell w)) (word-set w h)
   where
     go : (b : Bool) → b ≡ false
         → onlyIf (not b) (ascii " ?" ++ (decimal v ++ (ascii "=" ++ valueText (wordCell w))))

@@ -1,15 +1,15 @@
--- Bytes written into a buffer: none; one; a run and then another; one byte more of a text. Assumes nothing.
+-- Bytes written into a buffer: none; a run and then another; one byte more of a text. Assumes nothing.
 use mathlib.Core.Path.{_≡_, refl, sym, ap, _∙_}
 use mathlib.Core.Bool.{Bool, true, false}
 use mathlib.Core.List.{List, [], _∷_, _++_}
-use Prim.Native.Nat.{ℕ, suc, _+_, _-_, _≤_, _<_}
+use Prim.Native.Nat.{ℕ, suc, _+_, _≤_, _<_}
 use native.Mathlib.Numerals.{add-one}
 use native.Mathlib.Omega.{arith}
 use borrow.Author.Tests.{ltb-true, ltb-false}
 use lib.Dec.{ltb}
 use lib.ListN.{length, take, getD, set, length-set, length-append}
 use lib.Seq.{sets, length-sets, set-out, take-suc}
-use Rattle.text.specs.Writing.{fitting, Puts}
+use Rattle.text.specs.Writing.{howManyFit, Puts}
 
 -- ---- stores from a place on
 
@@ -20,24 +20,24 @@ sets-out (v ∷ vs) l i h =
     ap (λ (k : List ℕ). sets k (suc i) vs) (set-out l i v h) ∙ sets-out vs l (suc i) (omega arith)
 
 -- a run and then another, from the place behind what fits
-sets-append : (xs ys l : List ℕ) (i : ℕ) → sets (sets l i xs) (i + fitting (length xs) i (length l)) ys ≡ sets l i (xs ++ ys)
-sets-append [] ys l i = let e : i + fitting 0 i (length l) ≡ i = omega arith in rw e
+sets-append : (xs ys l : List ℕ) (i : ℕ) → sets (sets l i xs) (i + howManyFit (length xs) i (length l)) ys ≡ sets l i (xs ++ ys)
+sets-append [] ys l i = let e : i + howManyFit 0 i (length l) ≡ i = omega arith in rw e
 sets-append (x ∷ xs) ys l i = go (ltb i (length l)) refl (sets-append xs ys (set l i x) (suc i))
   where
     go : (b : Bool) → ltb i (length l) ≡ b
-        → sets (sets (set l i x) (suc i) xs) (suc i + fitting (length xs) (suc i) (length (set l i x))) ys
+        → sets (sets (set l i x) (suc i) xs) (suc i + howManyFit (length xs) (suc i) (length (set l i x))) ys
         ≡ sets (set l i x) (suc i) (xs ++ ys)
-        → sets (sets (set l i x) (suc i) xs) (i + fitting (suc (length xs)) i (length l)) ys ≡ sets (set l i x) (suc i) (xs ++ ys)
+        → sets (sets (set l i x) (suc i) xs) (i + howManyFit (suc (length xs)) i (length l)) ys ≡ sets (set l i x) (suc i) (xs ++ ys)
     go true e later =
         let h = ltb-true i (length l) e in
         let same = length-set l i x in
-        let p : i + fitting (suc (length xs)) i (length l) ≡ suc i + fitting (length xs) (suc i) (length (set l i x)) = omega arith in
+        let p : i + howManyFit (suc (length xs)) i (length l) ≡ suc i + howManyFit (length xs) (suc i) (length (set l i x)) = omega arith in
         rw p later
     go false e later =
         let h = ltb-false i (length l) e in
         let same = length-set l i x in
         let kept = length-sets (set l i x) (suc i) xs in
-        sets-out ys (sets (set l i x) (suc i) xs) (i + fitting (suc (length xs)) i (length l)) (omega arith)
+        sets-out ys (sets (set l i x) (suc i) xs) (i + howManyFit (suc (length xs)) i (length l)) (omega arith)
         ∙ sets-out xs (set l i x) (suc i) (omega arith)
         ∙ sym (sets-out (xs ++ ys) (set l i x) (suc i) (omega arith))
 
@@ -46,10 +46,7 @@ sets-append (x ∷ xs) ys l i = go (ltb i (length l)) refl (sets-append xs ys (s
 pub puts-none : (at : ℕ) (out : List ℕ) → Puts [] at out out at
 puts-none at out = record { buffer = refl; place = omega arith }
 
--- one byte, or none where the buffer ends
-pub puts-byte : (b at : ℕ) (out : List ℕ) → at < length out → Puts (b ∷ []) at out (set out at b) (at + 1)
-puts-byte b at out h = record { buffer = refl; place = omega arith }
-
+-- none where the buffer ends
 pub puts-past : (bytes : List ℕ) (at : ℕ) (out : List ℕ) → length out ≤ at → Puts bytes at out out at
 puts-past bytes at out h = record { buffer = sym (sets-out bytes out at h); place = omega arith }
 

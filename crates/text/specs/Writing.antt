@@ -11,13 +11,13 @@ use Rattle.tsparql.specs.Evaluate.{Evaluated}
 use Rattle.tsparql.specs.Strikes.{cellText}
 
 -- how many of n bytes fit into a buffer of so many from place `at` on
-abbrev pub fitting : ℕ → ℕ → ℕ → ℕ
-fitting n at room = min n (room - at)
+abbrev pub howManyFit : ℕ → ℕ → ℕ → ℕ
+howManyFit n at room = min n (room - at)
 
 -- the bytes stand from place `at` on, as far as they fit, all else is unchanged, and r is the place behind them
 pub record Puts (bytes : List ℕ) (at : ℕ) (out out′ : List ℕ) (r : ℕ) : Type 0 where
   pub buffer : out′ ≡ sets out at bytes
-  pub place : r ≡ at + fitting (length bytes) at (length out)
+  pub place : r ≡ at + howManyFit (length bytes) at (length out)
 
 -- the text of a row's set variables
 abbrev pub cellsText : Row → List ℕ

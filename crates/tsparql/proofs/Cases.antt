@@ -22,13 +22,14 @@ use Rattle.tsparql.specs.Push.{push}
 use Rattle.tsparql.specs.Writing.{patternBytes, conditionBytes, nodeBytes}
 use Rattle.tsparql.specs.Reading.{readPattern, readPatterns, conditionStep, readConditionIn, readCondition}
 use Rattle.tsparql.specs.Reading.{nodeStep, readNodeIn, readNode, readQuery, queryNode}
-use Rattle.tsparql.specs.Check.{refuse, noRefusal, passes, recordRefusal, recordsRefusal, tableRefusal, trustProjections}
-use Rattle.tsparql.specs.Check.{patternVariables, variablesRefusal, queryRefusal, check}
-use Rattle.tsparql.specs.Evaluate.{rowLength, trustWord, rowWords, capacity, Evaluated, refusedWith, answeredWith, answer}
-use Rattle.tsparql.specs.Evaluate.{evaluateOver}
+use Rattle.tsparql.specs.Check.{refuse, noRefusal, passes, recordRefusal, recordsRefusal, tableRefusal}
+use Rattle.tsparql.specs.Check.{trustProjections, patternVariables, variablesRefusal, queryRefusal, check}
+use Rattle.tsparql.specs.Evaluate.{rowLength, trustWord, rowWords, capacity}
+use Rattle.tsparql.specs.Evaluate.{Evaluated, refusedWith, answeredWith, answer, evaluateOver}
 use Rattle.tsparql.specs.Rewrite.{rewriting, rewriteRefusal, rewrite}
 use Rattle.tsparql.specs.Calls.{evaluateUntallied, ceilingOver, ceilingCall, Tally, tallied, run}
-use Rattle.tsparql.specs.Strikes.{ascii, digits, decimal, rowLine, refusedLine, countsLine, report, factsLimit, programRows, strikes}
+use Rattle.tsparql.specs.Strikes.{ascii, digits, decimal, rowLine, refusedLine, countsLine, report}
+use Rattle.tsparql.specs.Strikes.{factsLimit, programRows, strikes}
 
 -- ---- hexadecimal
 

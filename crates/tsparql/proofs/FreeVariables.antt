@@ -164,7 +164,7 @@ Once vs ps v = (occurrences v vs ≡ 0) × (occurrences v (map projectedVariable
 abbrev AllOnce : List ℕ → List TrustProjection → Type 0
 AllOnce vs ps = Every (λ p. Once vs ps (p .variable)) ps
 
-occurrences-append : (v : ℕ) (vs ws : List ℕ) → occurrences v (vs ++ ws) ≡ occurrences v vs + occurrences v ws
+pub occurrences-append : (v : ℕ) (vs ws : List ℕ) → occurrences v (vs ++ ws) ≡ occurrences v vs + occurrences v ws
 occurrences-append v vs ws = ap length (keepIf-append (eqb v) vs ws) ∙ length-append (keepIf (eqb v) vs) (keepIf (eqb v) ws)
 
 once-parts : (v : ℕ) (vs ws : List ℕ) (ps qs : List TrustProjection) → Once (vs ++ ws) (ps ++ qs) v → Once vs ps v × Once ws qs v

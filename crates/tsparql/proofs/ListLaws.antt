@@ -4,6 +4,7 @@
 use mathlib.Core.Path.{_≡_, refl, sym, ap, _∙_}
 use mathlib.Core.Bool.{Bool, true, false, _&&_, _||_, and-comm}
 use mathlib.Core.List.{List, [], _∷_, _++_, map, append-assoc}
+pub use mathlib.Core.List.{map-append}
 use Prim.Native.Nat.{suc, _≤_, zero-le, suc-le-suc}
 use native.Mathlib.Nat.{le-refl, le-step, le-trans, add-le-add}
 use lib.ListN.{length, length-append}
@@ -139,10 +140,6 @@ module _ {A : Type 0} where
 -- ---- map and concatMap
 
 module _ {A B : Type 0} where
-  pub map-append : (f : A → B) (xs ys : List A) → map f (xs ++ ys) ≡ map f xs ++ map f ys
-  map-append f [] ys = refl
-  map-append f (x ∷ xs) ys = ap (λ (r : List B). f x ∷ r) (map-append f xs ys)
-
   pub map-consIf : (f : A → B) (b : Bool) (x : A) (xs : List A) → map f (consIf b x xs) ≡ consIf b (f x) (map f xs)
   map-consIf f true x xs = refl
   map-consIf f false x xs = refl

@@ -107,14 +107,6 @@ module _ {A : Type 0} (readIn : ℕ → List ℕ → Read A) (step : (List ℕ �
       ∙ cong (readIn (length s)) (λ t. readIn (length t) t) s
       (λ at l. readIn-enough (length s) (length (drop at s)) (drop at s) (omega (arith, length-drop at s)) (le-refl _))
 
-pub readConditionIn-enough : (k m : ℕ) (s : List ℕ) → length s ≤ k → length s ≤ m → readConditionIn k s ≡ readConditionIn m s
-unfolding readConditionIn
-readConditionIn-enough = readIn-enough readConditionIn conditionStep readConditionIn-empty (λ k s. refl) conditionStep-cong
-
-pub readNodeIn-enough : (k m : ℕ) (s : List ℕ) → length s ≤ k → length s ≤ m → readNodeIn k s ≡ readNodeIn m s
-unfolding readNodeIn
-readNodeIn-enough = readIn-enough readNodeIn nodeStep readNodeIn-empty (λ k s. refl) nodeStep-cong
-
 -- ---- the readers without the bound: each is one step of itself
 
 pub readCondition-step : (s : List ℕ) → readCondition s ≡ conditionStep readCondition s

@@ -113,7 +113,7 @@ trustOf-sound x h = go (eqb (knownBit x) 1) h
     go true k = k refl
     go false k = tt
 
-factOf-sound : (x : ℕ) → recordSound x ≡ true → SoundFact (factOf x)
+pub factOf-sound : (x : ℕ) → recordSound x ≡ true → SoundFact (factOf x)
 unfolding factOf
 factOf-sound x e =
     let low = leb (trustField x) 2000 in
