@@ -25,7 +25,7 @@ use Rattle.query.specs.Answers.{faultRefusal}
 use Rattle.heads.specs.Parts.{pairHead, termHead, conditionHeadRead, conditionOperands}
 use Rattle.query.specs.Parts.{mapRead, follow}
 use Rattle.query.specs.Variables.{IsGot}
-use Rattle.query.proofs.ReadLaws.{by-kind, made-fault, made-by}
+use Rattle.query.proofs.ReadLaws.{by-kind, no-kind, made-fault, made-by}
 use Rattle.conditions.specs.Truths.{truthIn, ConditionSound, foundCondition, conditionOf, HeadFormed, headTruth, Judges}
 use Rattle.conditions.specs.declared.Truth.{Truth}
 use Rattle.conditions.specs.declared.Judged.the-variants as J
@@ -102,19 +102,16 @@ module _ (s : List ℕ) where
           (λ k. rw (e, k) (plain-tree (eqb (lowOf s) 0) C.True))
           (λ k. rw (
             e,
-            other k 0 (omega arith),
-            other k 1 (omega arith),
-            other k 2 (omega arith),
-            other k 3 (omega arith),
-            other k 4 (omega arith),
-            other k 5 (omega arith),
-            other k 6 (omega arith),
-            other k 7 (omega arith),
+            no-kind k 0 (omega arith),
+            no-kind k 1 (omega arith),
+            no-kind k 2 (omega arith),
+            no-kind k 3 (omega arith),
+            no-kind k 4 (omega arith),
+            no-kind k 5 (omega arith),
+            no-kind k 6 (omega arith),
+            no-kind k 7 (omega arith),
           ) (none (eqb (lowOf s) 0)))
         where
-          other : 8 ≤ kindOf s → (i : ℕ) → i < 8 → eqb (kindOf s) i ≡ false
-          other h i l = ne-eqb (kindOf s) i (λ z. omega arith)
-
           none : (b : Bool) → fault 0 ≡ follow (require b (fault 0)) treeOf
           none true = refl
           none false = refl

@@ -62,7 +62,7 @@ pattern-there (suc n) s some sound =
   where
     go : (b x y z : Bool) → leb 9 (length s) ≡ b
         → IsGot (andThen 0 (require (b && x && y && z) (got (patternAt s) 9))
-            (λ p at. andThen at (readPatterns n (drop at s)) (λ ps next. got (p ∷ ps) next)))
+        (λ p at. andThen at (readPatterns n (drop at s)) (λ ps next. got (p ∷ ps) next)))
         → (9 ≤ length s) × (require (b && x && y && z) (got (patternAt s) 9) ≡ got (patternAt s) 9)
     go true true true true e h = (leb-true 9 (length s) e, refl)
     go true true true false e h = absurd h

@@ -4,7 +4,7 @@ ghost use mathlib.Core.Path.{_≡_};
 ghost use Prim.Native.Nat.{_≤_};
 ghost use lib.ListN.{length};
 ghost use Rattle.tsparql.specs.Reading.{readCondition, readNode};
-ghost use Rattle.heads.specs.Answers.{conditionFound, nodeFound, faultIn};
+ghost use Rattle.heads.specs.Answers.{conditionFound, nodeFound, faultIn, patternCount};
 ghost use Rattle.query.specs.Answers.{conditionHead, nodeHead, placeFound};
 ghost use Rattle.query.specs.Parts.{mapRead, conditionsFrom, patternsFrom, beforeOperands, ownRead, nodesFrom};
 ghost use Rattle.query.specs.Variables.{nextNode};
@@ -70,6 +70,21 @@ fn read_conditions(q: &[u8], at: usize, n: u8) -> Place
 }
 
 // ---- nodes
+
+// How many patterns a pattern set has; other heads have none.
+pub fn pattern_count(h: Head) -> u8
+    ensures { λ r. ⌜ r ≡ patternCount h ⌝ }
+{
+    match h {
+        Head::PatternSet(n) => n,
+        Head::Join => 0,
+        Head::LeftJoin => 0,
+        Head::Union => 0,
+        Head::Filter => 0,
+        Head::ProjectTrust(_) => 0,
+        Head::EnsureTrust(_, _) => 0,
+    }
+}
 
 // The place behind n patterns from a place on.
 fn read_patterns(q: &[u8], at: usize, n: u8) -> Place

@@ -15,7 +15,7 @@ use Rattle.tsparql.specs.Check.{slotVariables, variablesOf, occurrences}
 use Rattle.query.specs.Variables.{PatternsSound}
 use Rattle.query.proofs.PatternParts.{next-pattern}
 use Rattle.scope.specs.Variables.{has, patternsOf}
-use Rattle.scope.proofs.Uses.{occurrences-append}
+use Rattle.tsparql.proofs.FreeVariables.{occurrences-append}
 
 -- a slot below 1048576 is a term
 pub slot-term : (v x : ℕ) → x < 1048576 → has v (slotVariables (slotOf x)) ≡ false

@@ -13,7 +13,7 @@ use Rattle.tsparql.specs.Lists.{keepIf, concatMap}
 use Rattle.tsparql.specs.Query.{Node, patternSet, join, leftJoin, union, filter, projectTrust, ensureTrust}
 use Rattle.tsparql.specs.Check.{variablesOf, patternVariables, occurrences, clashing, TrustProjection, projectedVariable, trustProjections}
 use Rattle.tsparql.specs.Check.{refuse, clashes, firstClash}
-use Rattle.tsparql.proofs.ListLaws.{keepIf-append}
+use Rattle.tsparql.proofs.FreeVariables.{occurrences-append}
 use Rattle.tsparql.proofs.PushQuery.{projectVariables, trustProjections-variables}
 use Rattle.tsparql.specs.Writing.{conditionSize, nodeSize}
 use Rattle.tsparql.proofs.QuerySize.{nodeSize-join, nodeSize-leftJoin, nodeSize-union, nodeSize-filter}
@@ -56,9 +56,6 @@ pub forestUses-step : (v : ℕ) (x : Node) (xs : List Node)
 forestUses-step v x xs = omega (arith, uses-operands v x, forestUses-append v (operandsIn x) xs)
 
 -- ---- uses and clashes
-
-pub occurrences-append : (v : ℕ) (xs ys : List ℕ) → occurrences v (xs ++ ys) ≡ occurrences v xs + occurrences v ys
-occurrences-append v xs ys = ap length (keepIf-append (eqb v) xs ys) ∙ length-append (keepIf (eqb v) xs) (keepIf (eqb v) ys)
 
 -- in no pattern: the uses are the projections; in a pattern: two at least
 pub record UsesAre (v : ℕ) (x : Node) : Type 0 where

@@ -136,11 +136,11 @@ checked t q = check t q .number ∷ check t q .place ∷ []
 
 -- number, place and ceiling
 ceilings : List ℕ → List ℕ → List ℕ
-ceilings t q = let c = ceilingCall t (worked q) in c .refusal .number ∷ c .refusal .place ∷ c .ceiling ∷ []
+ceilings t q = let c = ceilingCall t q in c .refusal .number ∷ c .refusal .place ∷ c .ceiling ∷ []
 
 -- a rewriting into so many bytes, all 7 at first: number, place, length, and the output at the end
 rewritten : List ℕ → ℕ → List ℕ
-rewritten q bytes = let r = rewrite (worked q) (replicate bytes 7) in r .refusal .number ∷ r .refusal .place ∷ r .size ∷ r .output
+rewritten q bytes = let r = rewrite q (replicate bytes 7) in r .refusal .number ∷ r .refusal .place ∷ r .size ∷ r .output
 
 -- subject, predicate, object and trust of a record
 fields : List ℕ → List ℕ
