@@ -8,7 +8,6 @@ ghost use Rattle.heads.specs.Answers.{conditionFound, nodeFound, faultIn, patte
 ghost use Rattle.query.specs.Answers.{conditionHead, nodeHead, placeFound};
 ghost use Rattle.query.specs.Parts.{mapRead, conditionsFrom, patternsFrom, beforeOperands, ownRead, nodesFrom};
 ghost use Rattle.query.specs.Variables.{nextNode};
-use heads::ConditionHead;
 use heads::ConditionRead;
 use heads::Head;
 use heads::NodeRead;
