@@ -250,11 +250,6 @@ module _ (s : List ℕ) (cs : List Cell) where
 -- ---- what an answer tells its caller
 
 module _ {s : List ℕ} {cs : List Cell} where
-  -- the part starts with a condition, whose last byte is before the next place
-  pub judged-read : {t : Truth} {n : ℕ} → Judges s cs (J.Truth t n) → readCondition s ≡ got (conditionOf s) n
-  judged-read {t} {n} j =
-      made-by (truthOn cs) (λ r. r ≡ got (foundCondition r) n) (readCondition s) (truthIn t) n (sym (j .found)) (λ _ _. refl)
-
   -- the truth is the condition's
   pub judged-truth : {t : Truth} {n : ℕ} → Judges s cs (J.Truth t n) → truthIn t ≡ truthOn cs (conditionOf s)
   judged-truth {t} {n} j =
