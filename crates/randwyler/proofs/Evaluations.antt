@@ -1,5 +1,5 @@
 -- Evaluation by the answers of its parts: what was refused by the check, and the answer to what passed it. Assumes nothing.
-use mathlib.Core.Path.{_≡_, sym}
+use mathlib.Core.Path.{_≡_, sym, _∙_}
 use mathlib.Core.Bool.{false}
 use mathlib.Core.List.{List}
 use Prim.Native.Nat.{ℕ, _≤_}
@@ -36,13 +36,14 @@ ready-node v t s h =
 
 -- ---- the tally
 
+-- the answer to a checked query, with the tally
+abbrev pub answered : View → List ℕ → List ℕ → Tally → ℕ → EvaluateAnswer
+answered v t s a words =
+    let e = answer least (factsIn v t) (queryNode s) words in record { evaluated = e; tally = tallied a (e .refusal) }
+
 pub counted : (v : View) (t s : List ℕ) (a : Tally) (ws out : List ℕ) (r : QueryRows) → Ready v t s
     → Answers (factsIn v t) (nodeOf s) (length ws) out r
-    → _≡_ {A = EvaluateAnswer} (record { evaluated = answeredIn r out; tally = raiseOne (isAnswered r) a })
-    (record {
-      evaluated = answer least (factsIn v t) (queryNode s) (length ws);
-      tally = tallied a (answer least (factsIn v t) (queryNode s) (length ws) .refusal);
-    })
+    → record { evaluated = answeredIn r out; tally = raiseOne (isAnswered r) a } ≡ answered v t s a (length ws)
 unfolding tallied
 counted v t s a ws out r h e =
     let is = ready-node v t s h .1 in
@@ -60,10 +61,6 @@ evaluate-refuses t s a ws h =
     let refused = evaluate-refused least (wholeTable t) t s ws (eqb-false (check t s .number) 0 no) in
     rw (refused, h .refusal, no)
 
-pub evaluate-answers : (v : View) (t s : List ℕ) (a : Tally) (ws : List ℕ) → Ready v t s
-    → _≡_ {A = EvaluateAnswer}
-    (record {
-      evaluated = answer least (factsIn v t) (queryNode s) (length ws);
-      tally = tallied a (answer least (factsIn v t) (queryNode s) (length ws) .refusal);
-    }) (evaluate a t s ws)
-evaluate-answers v t s a ws h = rw (evaluate-checked least (wholeTable t) t s ws (h .passed), h .seen)
+pub evaluate-answers : (v : View) (t s : List ℕ) (a : Tally) (ws : List ℕ) → Ready v t s → (x : EvaluateAnswer)
+    → x ≡ answered v t s a (length ws) → x ≡ evaluate a t s ws
+evaluate-answers v t s a ws h x e = e ∙ rw (evaluate-checked least (wholeTable t) t s ws (h .passed), h .seen)

@@ -39,9 +39,9 @@ returns-2 : tie.Need-returns-2
 returns-2 c =
     let k = c .before .before .before .before .before in
     let a = k .before .before .before .before .before .before .args in
-    c .before .before .evaluate-checked .ensures
-    ∙ evaluate-answers _ (a .table .now) (a .query .now) (tallyIn (a .tally)) (a .space .now)
-    (checked-ready (a .table .now) (a .query .now) _ (rw (k .c2 .given .1) at (k .before .before .check-both .ensures)))
+    evaluate-answers _ (a .table .now) (a .query .now) (tallyIn (a .tally)) (a .space .now)
+    (checked-ready (a .table .now) (a .query .now) _ (rw (k .c2 .given .1) at (k .before .before .check-both .ensures))) _
+    (c .before .before .evaluate-checked .ensures)
 
 pub randwyler-evaluate-spec : {M : Type 1} → statement M
 randwyler-evaluate-spec =
