@@ -21,7 +21,7 @@ use Rattle.encoding.specs.Writers.{boundsBytes, Wrote, WroteIfFits}
 use Rattle.query.specs.Answers.{nodeHead}
 use Rattle.query.specs.Variables.{NodeSound, nodeOf}
 use Rattle.query.proofs.Forest.{operandsIn, operandsAt}
-use Rattle.rewriting.specs.Bounds.{firstBound, secondBound, wrapped, stays, wrapBytes, ownPush, ownSize}
+use Rattle.bounds.specs.Bounds.{firstBound, secondBound, wrapped, stays, wrapBytes, ownPush, ownSize}
 
 -- ---- the bytes of a node in parts
 

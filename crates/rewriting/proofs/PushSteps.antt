@@ -20,7 +20,7 @@ use Rattle.query.proofs.Forest.{operandsIn}
 use Rattle.query.proofs.Operands.{Own, TwoOperands, operands-few, no-operand, one-operand, two-operands}
 use Rattle.rewriting.specs.declared.Pushed.{Pushed}
 use Rattle.rewriting.specs.declared.Pushed.the-variants as P
-use Rattle.rewriting.specs.Bounds.{firstBound, secondBound, ownPush, ownSize}
+use Rattle.bounds.specs.Bounds.{firstBound, secondBound, ownPush, ownSize}
 use Rattle.rewriting.specs.Answers.{pushedIn}
 use Rattle.rewriting.proofs.PushParts.{ownBytes, allBytes, pushesOf, own-bytes, own-length, push-bytes, own-size}
 

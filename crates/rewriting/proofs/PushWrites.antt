@@ -21,7 +21,7 @@ use Rattle.query.proofs.Operands.{Own}
 use Rattle.encoding.proofs.WriterLaws.{wrote-behind}
 use Rattle.rewriting.specs.declared.Pushed.{Pushed}
 use Rattle.rewriting.specs.declared.Pushed.the-variants as P
-use Rattle.rewriting.specs.Bounds.{firstBound, secondBound}
+use Rattle.bounds.specs.Bounds.{firstBound, secondBound}
 use Rattle.rewriting.specs.Answers.{Pushable, Pushes}
 use Rattle.rewriting.proofs.PushSteps.{got-is, part-ready, answered-part}
 

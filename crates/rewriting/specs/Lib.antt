@@ -1,3 +1,2 @@
 -- What the rewriting's functions answer, in the definitions' terms.
-pub mod Bounds
 pub mod Answers

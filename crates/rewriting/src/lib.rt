@@ -1,18 +1,22 @@
 // Rewriting: the push of a query, on bytes. What stands before a node's operands, its head with its patterns or its condition, is copied
 // from the query; ensure trust goes, and comes back where a bound wraps a node.
 ghost use mathlib.Core.Path.{_≡_};
-ghost use Prim.Native.Nat.{_+_, _^_, _≤_, _<_, max, min};
+ghost use Prim.Native.Nat.{_+_, _^_, _≤_, _<_};
 ghost use lib.ListN.{length, take};
-ghost use Rattle.tsparql.specs.Push as D;
 ghost use Rattle.tsparql.specs.Push.{push, BoundFormed};
 ghost use Rattle.tsparql.specs.Reading.{got};
 ghost use Rattle.tsparql.specs.Rewrite as W;
 ghost use Rattle.tsparql.specs.Writing.{nodeSize};
 ghost use Rattle.query.specs.Variables.{NodeSound, nodeOf};
 ghost use Rattle.encoding.specs.Writers.{Wrote};
-ghost use Rattle.rewriting.specs.Bounds.{boundIn, isBound, isBelow, firstBound, secondBound};
-ghost use Rattle.rewriting.specs.Bounds.{wrapped, stays, wrapBytes, ownPush, ownSize};
+ghost use Rattle.bounds.specs.Bounds.{boundIn, wrapBytes, ownPush, ownSize};
 ghost use Rattle.rewriting.specs.Answers.{pushedIn, placeIn, placedBehind, Pushable, Pushes, rewrittenIn, answerOf};
+use bounds::Bound;
+use bounds::first_bound;
+use bounds::own_size;
+use bounds::second_bound;
+use bounds::stays_put;
+use bounds::wraps;
 use bytes::copy;
 use encoding::write_head;
 use heads::Head;
@@ -22,12 +26,6 @@ use heads::node_operands;
 use query::read_own;
 use scope::QueryAnswer;
 use scope::check_query;
-
-// A bound on trust carried down from the root, plus 1000: none, or from l to u.
-enum Bound {
-    Nothing,
-    Between(u32, u32),
-}
 
 // The size of a node's push and the place behind the node, or the refusal.
 enum Pushed {
@@ -43,129 +41,6 @@ pub enum RewriteAnswer {
 
 // The most bytes of a query that is rewritten.
 const REWRITE_LIMIT: usize = 1024;
-
-fn lesser(a: u32, b: u32) -> u32
-    ensures { λ r. ⌜ r ≡ min a b ⌝ }
-{
-    if a <= b { a } else { b }
-}
-
-fn greater(a: u32, b: u32) -> u32
-    ensures { λ r. ⌜ r ≡ max a b ⌝ }
-{
-    if a <= b { b } else { a }
-}
-
-// The bound of the operand of ensure trust from m to w.
-fn meet(b: Bound, m: u32, w: u32) -> Bound
-    ensures { λ r. ⌜ boundIn r ≡ D.meet (boundIn b) m w ⌝ }
-{
-    match b {
-        Bound::Nothing => Bound::Between(m, w),
-        Bound::Between(l, u) => Bound::Between(greater(l, m), lesser(u, w)),
-    }
-}
-
-// The bound of the operands of a join: as low, and up to 1000.
-fn floor_of(b: Bound) -> Bound
-    ensures { λ r. ⌜ boundIn r ≡ D.trustFloor (boundIn b) ⌝ }
-{
-    match b {
-        Bound::Nothing => Bound::Nothing,
-        Bound::Between(l, _) => Bound::Between(l, 2000),
-    }
-}
-
-// A bound is there, and it is below 1000 at the top.
-fn is_below(b: Bound) -> bool
-    ensures { λ r. ⌜ r ≡ isBelow (boundIn b) ⌝ }
-{
-    match b {
-        Bound::Nothing => false,
-        Bound::Between(_, u) => u < 2000,
-    }
-}
-
-fn is_bound(b: Bound) -> bool
-    ensures { λ r. ⌜ r ≡ isBound (boundIn b) ⌝ }
-{
-    match b {
-        Bound::Nothing => false,
-        Bound::Between(_, _) => true,
-    }
-}
-
-// The node is wrapped in ensure trust.
-fn wraps(h: Head, b: Bound) -> bool
-    ensures { λ r. ⌜ r ≡ wrapped h (boundIn b) ⌝ }
-{
-    match h {
-        Head::PatternSet(_) => is_bound(b),
-        Head::Join => is_below(b),
-        Head::LeftJoin => is_bound(b),
-        Head::Union => false,
-        Head::Filter => false,
-        Head::ProjectTrust(_) => false,
-        Head::EnsureTrust(_, _) => false,
-    }
-}
-
-// The bound of a node's first operand, where it has one.
-fn first_bound(h: Head, b: Bound) -> Bound
-    ensures { λ r. ⌜ boundIn r ≡ firstBound h (boundIn b) ⌝ }
-{
-    match h {
-        Head::PatternSet(_) => b,
-        Head::Join => floor_of(b),
-        Head::LeftJoin => floor_of(b),
-        Head::Union => b,
-        Head::Filter => b,
-        Head::ProjectTrust(_) => b,
-        Head::EnsureTrust(l, u) => meet(b, l, u),
-    }
-}
-
-// The bound of its second, where it has one.
-fn second_bound(h: Head, b: Bound) -> Bound
-    ensures { λ r. ⌜ boundIn r ≡ secondBound h (boundIn b) ⌝ }
-{
-    match h {
-        Head::PatternSet(_) => b,
-        Head::Join => floor_of(b),
-        Head::LeftJoin => Bound::Nothing,
-        Head::Union => b,
-        Head::Filter => b,
-        Head::ProjectTrust(_) => b,
-        Head::EnsureTrust(_, _) => b,
-    }
-}
-
-// Ensure trust goes; every other node stays.
-fn stays_put(h: Head) -> bool
-    ensures { λ r. ⌜ r ≡ stays h ⌝ }
-{
-    match h {
-        Head::PatternSet(_) => true,
-        Head::Join => true,
-        Head::LeftJoin => true,
-        Head::Union => true,
-        Head::Filter => true,
-        Head::ProjectTrust(_) => true,
-        Head::EnsureTrust(_, _) => false,
-    }
-}
-
-// How many bytes stand before a node's operands after the push, where k stood there.
-fn own_size(h: Head, b: Bound, k: usize) -> usize
-    requires { ⌜ k ≤ 1024 ⌝ }
-    ensures { λ r. ⌜ r ≡ ownSize h (boundIn b) k ⌝ }
-{
-    if stays_put(h) {
-        if wraps(h, b) { 4 + k } else { k }
-    } else {
-        0
-    }
-}
 
 // A refusal at a place counted from k bytes before.
 fn refused_at(k: usize, p: Pushed) -> Pushed

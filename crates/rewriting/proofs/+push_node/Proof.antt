@@ -23,16 +23,16 @@ use Rattle.heads.proofs.node_fault.Reads as node-fault-reads
 use Rattle.heads.proofs.node_operands.Reads as node-operands-reads
 use Rattle.query.proofs.read_own.Reads as read-own-reads
 use Rattle.rewriting.specs.declared.Pushed.the-variants as P
-use Rattle.rewriting.specs.Bounds.{boundIn, firstBound, secondBound, ownPush, ownSize}
+use Rattle.bounds.specs.Bounds.{boundIn, firstBound, secondBound, ownPush, ownSize}
 use Rattle.rewriting.specs.Answers.{Pushable}
 use Rattle.rewriting.proofs.PushSteps.{answered-part, never-refused, push-inside, own-inside, own-taken, first-inside, size-two}
 use Rattle.rewriting.proofs.PushSteps.{pushed-none, pushed-one, pushed-two}
 use Rattle.rewriting.proofs.PushWrites.{operands-formed, operand-ready, push-behind, pushes-all}
 use Rattle.rewriting.proofs.push_node.Reads as push-node
 use Rattle.rewriting.proofs.push_node.Kinds as push-node-kinds
-use Rattle.rewriting.proofs.first_bound.Reads as first-bound-reads
+use Rattle.bounds.proofs.first_bound.Reads as first-bound-reads
 use Rattle.rewriting.proofs.refused_at.Reads as refused-at-reads
-use Rattle.rewriting.proofs.second_bound.Reads as second-bound-reads
+use Rattle.bounds.proofs.second_bound.Reads as second-bound-reads
 use Rattle.rewriting.proofs.write_own.Reads as write-own-reads
 use Rattle.rewriting.proofs.+push_node.Lts-push_node as push-node-lts
 use Rattle.rewriting.proofs.+push_node.{statement}

@@ -19,15 +19,15 @@ use Rattle.heads.proofs.node_fault.Reads as node-fault-reads
 use Rattle.heads.proofs.node_operands.Reads as node-operands-reads
 use Rattle.query.proofs.read_own.Reads as read-own-reads
 use Rattle.rewriting.specs.declared.Pushed.the-variants as P
-use Rattle.rewriting.specs.Bounds.{boundIn, firstBound, ownSize}
+use Rattle.bounds.specs.Bounds.{boundIn, firstBound, ownSize}
 use Rattle.rewriting.proofs.PushSteps.{got-is, part-ready, answered-part, never-refused, push-inside, first-inside}
 use Rattle.rewriting.proofs.PushSteps.{size-none, size-one, size-two}
 use Rattle.rewriting.proofs.push_size.Reads as push-size
 use Rattle.rewriting.proofs.push_size.Kinds as push-size-kinds
-use Rattle.rewriting.proofs.first_bound.Reads as first-bound-reads
-use Rattle.rewriting.proofs.own_size.Reads as own-size-reads
+use Rattle.bounds.proofs.first_bound.Reads as first-bound-reads
+use Rattle.bounds.proofs.own_size.Reads as own-size-reads
 use Rattle.rewriting.proofs.refused_at.Reads as refused-at-reads
-use Rattle.rewriting.proofs.second_bound.Reads as second-bound-reads
+use Rattle.bounds.proofs.second_bound.Reads as second-bound-reads
 use Rattle.rewriting.proofs.+push_size.Lts-push_size as push-size-lts
 use Rattle.rewriting.proofs.+push_size.{statement}
 use Rattle.rewriting.proofs.+push_size.Tie.{close}

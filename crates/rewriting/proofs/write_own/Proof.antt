@@ -10,7 +10,7 @@ use lib.Seq.{length-take-le, take-length}
 use Rattle.encoding.specs.Writers.{Wrote}
 use Rattle.query.proofs.ReadLaws.{part-drop}
 use Rattle.encoding.proofs.WriterLaws.{wrote-long, wrote-behind}
-use Rattle.rewriting.specs.Bounds.{boundIn, stays, wrapped, wrapBytes}
+use Rattle.bounds.specs.Bounds.{boundIn, stays, wrapped, wrapBytes}
 use Rattle.rewriting.proofs.PushParts.{wrap-size, own-wrapped, own-bare, own-gone}
 use Rattle.rewriting.proofs.write_own.Statement.{statement}
 use Rattle.rewriting.proofs.write_own.Tie as tie

@@ -1,8 +1,8 @@
 -- By the tests. Assumes nothing.
 use mathlib.Core.Path.{sym, _∙_}
 use borrow.Author.Needs.{needs}
-use Rattle.rewriting.proofs.own_size.Statement.{statement}
-use Rattle.rewriting.proofs.own_size.Tie as tie
+use Rattle.bounds.proofs.own_size.Statement.{statement}
+use Rattle.bounds.proofs.own_size.Tie as tie
 
 stays-put-requires : tie.Need-stays-put-requires
 stays-put-requires c κs = search needs

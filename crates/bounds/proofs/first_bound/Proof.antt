@@ -1,7 +1,7 @@
 -- By the head. Assumes nothing.
 use borrow.Author.Needs.{needs}
-use Rattle.rewriting.proofs.first_bound.Statement.{statement}
-use Rattle.rewriting.proofs.first_bound.Tie as tie
+use Rattle.bounds.proofs.first_bound.Statement.{statement}
+use Rattle.bounds.proofs.first_bound.Tie as tie
 
 enum-told : tie.Need-enum-told
 enum-told c = search needs

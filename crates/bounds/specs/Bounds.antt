@@ -7,8 +7,8 @@ use Rattle.tsparql.specs.Push.{TrustBound, noBound, between, meet, trustFloor}
 use Rattle.tsparql.specs.Writing.{firstByte, threeBytes}
 use Rattle.heads.specs.declared.Head.{Head}
 use Rattle.heads.specs.declared.Head.the-variants as H
-use Rattle.rewriting.specs.declared.Bound.{Bound}
-use Rattle.rewriting.specs.declared.Bound.the-variants as B
+use Rattle.bounds.specs.declared.Bound.{Bound}
+use Rattle.bounds.specs.declared.Bound.the-variants as B
 
 -- the bound that a value stands for
 abbrev pub boundIn : Bound → TrustBound

@@ -1,7 +1,7 @@
 -- By the bound's case. Assumes nothing.
 use borrow.Author.Needs.{needs}
-use Rattle.rewriting.proofs.meet.Statement.{statement}
-use Rattle.rewriting.proofs.meet.Tie as tie
+use Rattle.bounds.proofs.meet.Statement.{statement}
+use Rattle.bounds.proofs.meet.Tie as tie
 
 enum-told : tie.Need-enum-told
 enum-told c = search needs
