@@ -24,7 +24,7 @@ use Rattle.heads.specs.Answers.{faultIn}
 use Rattle.query.specs.Answers.{faultRefusal}
 use Rattle.heads.specs.Parts.{pairHead, termHead, conditionHeadRead, conditionOperands}
 use Rattle.query.specs.Parts.{mapRead, follow}
-use Rattle.query.specs.Variables.{IsGot}
+use Rattle.query.specs.Found.{IsGot}
 use Rattle.query.proofs.ReadLaws.{by-kind, no-kind, made-fault, made-by}
 use Rattle.conditions.specs.Truths.{truthIn, ConditionSound, foundCondition, conditionOf, HeadFormed, headTruth, Judges}
 use Rattle.conditions.specs.declared.Truth.{Truth}

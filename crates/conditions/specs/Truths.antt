@@ -15,7 +15,7 @@ use Rattle.heads.specs.declared.ConditionHead.{ConditionHead}
 use Rattle.heads.specs.declared.ConditionHead.the-variants as C
 use Rattle.query.specs.Answers.{faultRefusal}
 use Rattle.query.specs.Parts.{mapRead}
-use Rattle.query.specs.Variables.{IsGot}
+use Rattle.query.specs.Found.{IsGot}
 use Rattle.conditions.specs.declared.Truth.{Truth}
 use Rattle.conditions.specs.declared.Truth.the-variants as T
 use Rattle.conditions.specs.declared.Judged.{Judged}

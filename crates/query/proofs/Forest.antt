@@ -23,7 +23,7 @@ use Rattle.heads.specs.declared.Head.the-variants as H
 use Rattle.query.specs.Answers.{nodeHead}
 use Rattle.heads.specs.Parts.{nodeHeadRead}
 use Rattle.query.specs.Parts.{conditionsFrom, beforeOperands, ownRead}
-use Rattle.query.specs.Variables.{QuerySound}
+use Rattle.query.specs.Found.{QuerySound}
 use Rattle.query.proofs.ReadLaws.{by-kind, no-kind, fault-not-got}
 use Rattle.query.proofs.NodeParts.{one-condition}
 

@@ -13,7 +13,7 @@ use Rattle.heads.specs.declared.Head.the-variants as H
 use Rattle.query.specs.Answers.{nodeHead}
 use Rattle.heads.specs.Parts.{nodeOperands}
 use Rattle.query.specs.Parts.{ownRead}
-use Rattle.query.specs.Variables.{NodeSound, nodeOf}
+use Rattle.query.specs.Found.{NodeSound, nodeOf}
 use Rattle.query.proofs.ReadLaws.{placeOf, fault-not-got}
 use Rattle.query.proofs.NodeParts.{node-inside}
 use Rattle.query.proofs.Forest.{ReadsAll, readsAll-inside, operandsIn, operandsAt, operandsAt-positive, PatternsRead, headLength}

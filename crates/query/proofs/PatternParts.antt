@@ -15,7 +15,7 @@ use Rattle.tsparql.proofs.WrittenRead.{readPattern-sound}
 use Rattle.tsparql.specs.WellFormed.{PatternFormed}
 use Rattle.tsparql.specs.Writing.{patternBytes}
 use Rattle.query.specs.Parts.{placed, shift, patternsFrom}
-use Rattle.query.specs.Variables.{IsGot}
+use Rattle.query.specs.Found.{IsGot}
 use Rattle.query.proofs.ReadLaws.{part-drop, placeOf, reads-inside}
 
 pub patterns-none : (s : List ℕ) (at n : ℕ) → n ≡ 0 → patternsFrom n at s ≡ got tt at

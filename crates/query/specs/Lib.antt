@@ -1,4 +1,4 @@
 -- What the query readers answer, in the definitions' terms.
 pub mod Answers
 pub mod Parts
-pub mod Variables
+pub mod Found

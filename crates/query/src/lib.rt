@@ -7,7 +7,7 @@ ghost use Rattle.tsparql.specs.Reading.{readCondition, readNode};
 ghost use Rattle.heads.specs.Answers.{conditionFound, nodeFound, faultIn, patternCount};
 ghost use Rattle.query.specs.Answers.{conditionHead, nodeHead, placeFound};
 ghost use Rattle.query.specs.Parts.{mapRead, conditionsFrom, patternsFrom, beforeOperands, ownRead, nodesFrom};
-ghost use Rattle.query.specs.Variables.{nextNode};
+ghost use Rattle.query.specs.Found.{nextNode};
 use heads::ConditionRead;
 use heads::Head;
 use heads::NodeRead;

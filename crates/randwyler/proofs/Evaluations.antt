@@ -14,7 +14,7 @@ use Rattle.tsparql.specs.Evaluate.{refusedWith, answer}
 use Rattle.tsparql.specs.Calls.{Tally, raiseOne, tallied, EvaluateAnswer, evaluate}
 use Rattle.tsparql.proofs.QueryLaws.{query-checked, check-parts}
 use Rattle.tsparql.proofs.EvaluateLaws.{evaluate-checked, evaluate-refused}
-use Rattle.query.specs.Variables.{NodeSound, nodeOf}
+use Rattle.query.specs.Found.{NodeSound, nodeOf}
 use Rattle.query.proofs.Forest.{query-reads}
 use Rattle.patterns.specs.Sets.{Seen}
 use Rattle.evaluation.specs.Evaluations.{isAnswered, answeredIn, Answers}

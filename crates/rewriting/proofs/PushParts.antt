@@ -19,7 +19,7 @@ use Rattle.heads.specs.declared.Head.{Head}
 use Rattle.heads.specs.declared.Head.the-variants as H
 use Rattle.encoding.specs.Writers.{boundsBytes, Wrote, WroteIfFits}
 use Rattle.query.specs.Answers.{nodeHead}
-use Rattle.query.specs.Variables.{NodeSound, nodeOf}
+use Rattle.query.specs.Found.{NodeSound, nodeOf}
 use Rattle.query.proofs.Forest.{operandsIn, operandsAt}
 use Rattle.bounds.specs.Bounds.{firstBound, secondBound, wrapped, stays, wrapBytes, ownPush, ownSize}
 

@@ -14,7 +14,7 @@ use Rattle.tsparql.specs.Rewrite.{rewriteLimit}
 use Rattle.tsparql.proofs.PushQuery.{push-size-≤}
 use Rattle.heads.specs.declared.Head.{Head}
 use Rattle.heads.specs.Parts.{nodeOperands}
-use Rattle.query.specs.Variables.{NodeSound, nodeOf}
+use Rattle.query.specs.Found.{NodeSound, nodeOf}
 use Rattle.query.proofs.ReadLaws.{part-drop, fault-not-got}
 use Rattle.query.proofs.Forest.{operandsIn}
 use Rattle.query.proofs.Operands.{Own, TwoOperands, operands-few, no-operand, one-operand, two-operands}

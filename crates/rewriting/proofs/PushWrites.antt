@@ -14,7 +14,7 @@ use Rattle.tsparql.specs.Rewrite.{rewriteLimit}
 use Rattle.tsparql.proofs.PushQuery.{trustFloor-formed, meet-formed}
 use Rattle.heads.specs.declared.Head.{Head}
 use Rattle.query.specs.Answers.{nodeHead}
-use Rattle.query.specs.Variables.{NodeSound, nodeOf}
+use Rattle.query.specs.Found.{NodeSound, nodeOf}
 use Rattle.encoding.specs.Writers.{Wrote}
 use Rattle.query.proofs.ReadLaws.{part-drop}
 use Rattle.query.proofs.Operands.{Own}

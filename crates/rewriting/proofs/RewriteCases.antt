@@ -14,7 +14,7 @@ use Rattle.tsparql.specs.Rewrite.{rewriteLimit, rewriting, rewriteRefusal, wrot
 use Rattle.tsparql.proofs.QueryLaws.{query-checked}
 use Rattle.tsparql.proofs.RefusalLaws.{orElse-second}
 use Rattle.tsparql.proofs.RewriteLaws.{rewrite-passes}
-use Rattle.query.specs.Variables.{NodeSound, nodeOf}
+use Rattle.query.specs.Found.{NodeSound, nodeOf}
 use Rattle.query.proofs.ReadLaws.{fault-not-got}
 use Rattle.query.proofs.Forest.{query-reads}
 use Rattle.scope.specs.declared.QueryAnswer.{QueryAnswer}

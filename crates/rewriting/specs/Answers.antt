@@ -9,7 +9,7 @@ use Rattle.tsparql.specs.Reading.{Read, got, fault}
 use Rattle.tsparql.specs.Check.{noRefusal, refuse}
 use Rattle.tsparql.specs.Rewrite as D
 use Rattle.tsparql.specs.Rewrite.{rewriteLimit, wroteNothing}
-use Rattle.query.specs.Variables.{NodeSound, nodeOf}
+use Rattle.query.specs.Found.{NodeSound, nodeOf}
 use Rattle.encoding.specs.Writers.{Wrote}
 use Rattle.rewriting.specs.declared.Pushed.{Pushed}
 use Rattle.rewriting.specs.declared.Pushed.the-variants as P

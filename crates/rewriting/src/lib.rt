@@ -7,7 +7,7 @@ ghost use Rattle.tsparql.specs.Push.{push, BoundFormed};
 ghost use Rattle.tsparql.specs.Reading.{got};
 ghost use Rattle.tsparql.specs.Rewrite as W;
 ghost use Rattle.tsparql.specs.Writing.{nodeSize};
-ghost use Rattle.query.specs.Variables.{NodeSound, nodeOf};
+ghost use Rattle.query.specs.Found.{NodeSound, nodeOf};
 ghost use Rattle.encoding.specs.Writers.{Wrote};
 ghost use Rattle.bounds.specs.Bounds.{boundIn, wrapBytes, ownPush, ownSize};
 ghost use Rattle.rewriting.specs.Answers.{pushedIn, placeIn, placedBehind, Pushable, Pushes, rewrittenIn, answerOf};

@@ -9,7 +9,7 @@ use lib.ListN.{length}
 use Rattle.tsparql.specs.Query.{Node}
 use Rattle.tsparql.specs.Reading.{got, fault, readNode, readQuery, queryNode}
 use Rattle.tsparql.specs.Check.{refuse, variablesRefusal, queryRefusal}
-use Rattle.query.specs.Variables.{QuerySound}
+use Rattle.query.specs.Found.{QuerySound}
 use Rattle.scope.specs.declared.Clash.{Clash}
 use Rattle.scope.specs.declared.Clash.the-variants as C
 use Rattle.scope.specs.declared.QueryAnswer.{QueryAnswer}

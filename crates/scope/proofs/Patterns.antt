@@ -12,7 +12,7 @@ use lib.ListN.{drop}
 use Rattle.tsparql.specs.Query.{Pattern}
 use Rattle.tsparql.specs.Reading.{Read, got, fault, andThen, slotOf, readPattern, readPatterns}
 use Rattle.tsparql.specs.Check.{slotVariables, variablesOf, occurrences}
-use Rattle.query.specs.Variables.{PatternsSound}
+use Rattle.query.specs.Found.{PatternsSound}
 use Rattle.query.proofs.PatternParts.{next-pattern}
 use Rattle.scope.specs.Variables.{has, patternsOf}
 use Rattle.tsparql.proofs.FreeVariables.{occurrences-append}

@@ -24,7 +24,7 @@ use Rattle.heads.specs.declared.Head.{Head}
 use Rattle.heads.specs.declared.Head.the-variants as H
 use Rattle.heads.specs.Parts.{nodeHeadRead}
 use Rattle.query.specs.Parts.{placed}
-use Rattle.query.specs.Variables.{PatternsSound, NodeSound, nodeOf, nextNode, QuerySound}
+use Rattle.query.specs.Found.{PatternsSound, NodeSound, nodeOf, nextNode, QuerySound}
 use Rattle.query.proofs.ReadLaws.{fault-not-got}
 use Rattle.query.proofs.Forest.{ReadsAll, readsAll-inside, operandsIn, operandsAt, operandsAt-positive, PatternsRead, NodeFound}
 use Rattle.query.proofs.Forest.{query-reads, node-found, own-read, read-size, read-formed}

@@ -14,7 +14,7 @@ use Rattle.tsparql.specs.Check.{projectedVariable, trustProjections}
 use Rattle.heads.specs.declared.Head.{Head}
 use Rattle.heads.specs.declared.Head.the-variants as H
 use Rattle.heads.specs.Parts.{nodeHeadRead}
-use Rattle.query.specs.Variables.{foundPatterns}
+use Rattle.query.specs.Found.{foundPatterns}
 use Rattle.scope.specs.declared.Clash.{Clash}
 use Rattle.scope.specs.declared.Clash.the-variants as C
 use Rattle.scope.specs.declared.QueryAnswer.{QueryAnswer}

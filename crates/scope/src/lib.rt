@@ -5,7 +5,7 @@ ghost use lib.ListN.{length};
 ghost use Rattle.tsparql.specs.Reading.{slotOf, queryNode};
 ghost use Rattle.tsparql.specs.Check.{slotVariables, variablesOf, variablesRefusal};
 ghost use Rattle.slots.specs.Answers.{patternIn};
-ghost use Rattle.query.specs.Variables.{PatternsSound, NodeSound, nodeOf, QuerySound};
+ghost use Rattle.query.specs.Found.{PatternsSound, NodeSound, nodeOf, QuerySound};
 ghost use Rattle.scope.specs.Variables.{has, patternsOf, ownUses, projectedIn, clashesWith, clashAt, clashIn, Checked};
 use heads::Head;
 use heads::NodeRead;

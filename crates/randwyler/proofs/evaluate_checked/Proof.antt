@@ -5,7 +5,7 @@ use Prim.Native.Nat.{ℕ}
 use borrow.Author.Needs.{needs}
 use lib.ListN.{length}
 use Rattle.tsparql.specs.Table.{factsIn}
-use Rattle.query.specs.Variables.{nodeOf}
+use Rattle.query.specs.Found.{nodeOf}
 use Rattle.patterns.specs.Matching.{viewOf}
 use Rattle.evaluation.specs.declared.QueryRows.{QueryRows}
 use Rattle.evaluation.specs.Evaluations.{Answers}

@@ -15,7 +15,7 @@ use Rattle.tsparql.specs.WellFormed.{Bytes}
 use Rattle.heads.specs.declared.Head.{Head}
 use Rattle.heads.specs.Answers.{nodeFound}
 use Rattle.heads.specs.Parts.{nodeOperands}
-use Rattle.query.specs.Variables.{nodeOf}
+use Rattle.query.specs.Found.{nodeOf}
 use Rattle.encoding.specs.Writers.{Wrote}
 use Rattle.query.proofs.Operands.{Own, TwoOperands, own-found, own-sound, no-operand, one-operand, first-sound, second-operand}
 use Rattle.encoding.proofs.WriterLaws.{wrote-long}

@@ -13,7 +13,7 @@ use Rattle.tsparql.specs.Writing.{nodeSize}
 use Rattle.heads.specs.declared.Head.{Head}
 use Rattle.heads.specs.Answers.{nodeFound}
 use Rattle.heads.specs.Parts.{nodeOperands}
-use Rattle.query.specs.Variables.{NodeSound, nodeOf}
+use Rattle.query.specs.Found.{NodeSound, nodeOf}
 use Rattle.query.proofs.Operands.{Own, TwoOperands, own-found, own-sound, no-operand, one-operand, first-sound, second-operand}
 use Rattle.heads.proofs.node_fault.Reads as node-fault-reads
 use Rattle.heads.proofs.node_operands.Reads as node-operands-reads

@@ -7,7 +7,7 @@ use Rattle.tsparql.specs.Push.{noBound, push}
 use Rattle.tsparql.specs.Writing.{nodeBytes}
 use Rattle.tsparql.specs.Check.{Passes, queryRefusal}
 use Rattle.tsparql.specs.Rewrite.{rewriteLimit}
-use Rattle.query.specs.Variables.{nodeOf}
+use Rattle.query.specs.Found.{nodeOf}
 use Rattle.query.proofs.ReadLaws.{fault-not-got}
 use Rattle.rewriting.specs.Answers.{pushedIn, rewrittenIn}
 use Rattle.rewriting.proofs.RewriteCases.{query-refused, query-passes, whole, too-short, all-written}

@@ -7,7 +7,7 @@ use Prim.Native.Nat.{_+_, _≤_, _-_}
 use Rattle.tsparql.specs.Reading.{got}
 use borrow.Author.Needs.{needs}
 use Rattle.query.specs.Answers.{placeFound}
-use Rattle.query.specs.Variables.{nodeOf, nextNode}
+use Rattle.query.specs.Found.{nodeOf, nextNode}
 use Rattle.scope.specs.Variables.{ownUses}
 use Rattle.query.proofs.ReadLaws.{part-drop, on-part}
 use Rattle.scope.proofs.Walk.{uses-start, uses-sound, uses-here, next-found, next-inside, uses-next, uses-end, ownUses-small}

@@ -6,7 +6,7 @@ use Prim.Native.Nat.{_+_, _≤_, _-_}
 use Rattle.tsparql.specs.Reading.{got}
 use borrow.Author.Needs.{needs}
 use Rattle.query.specs.Answers.{placeFound}
-use Rattle.query.specs.Variables.{nextNode}
+use Rattle.query.specs.Found.{nextNode}
 use Rattle.query.proofs.ReadLaws.{on-part}
 use Rattle.scope.proofs.Walk.{clash-start, clash-is, next-found, next-inside, clash-next, clash-none, ClashLeft}
 use Rattle.scope.proofs.first_clash.Statement.{statement}

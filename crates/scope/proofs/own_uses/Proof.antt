@@ -5,7 +5,7 @@ use Rattle.heads.specs.Answers.{nodeFound}
 use Rattle.query.proofs.NodeParts.{node-head-inside}
 use Rattle.scope.proofs.Walk.{headUses, HeadOfNode, head-of-node, head-sound}
 use Rattle.heads.specs.declared.Head.{Head}
-use Rattle.query.specs.Variables.{nodeOf}
+use Rattle.query.specs.Found.{nodeOf}
 use Rattle.scope.specs.Variables.{ownUses}
 use borrow.Author.Needs.{needs}
 use Rattle.scope.proofs.own_uses.Statement.{statement}
