@@ -1,6 +1,6 @@
-// Readers of the head of a condition or a node: what it is without its operands, and how many those are. A reader takes the part of the
-// query that starts at what it reads, and answers the head with the place behind the head's own bytes, or the place of the fault, both
-// counted from the part's start.
+// Readers of the head of a condition or a node: what it is without its operands, and how many those are. A reader is given the part
+// of the query from there on, and answers the head with the place behind the head's own bytes, or where the fault is, both counted from
+// the part's start.
 ghost use mathlib.Core.Path.{_≡_};
 ghost use Rattle.heads.specs.Answers.{conditionFound, nodeFound, faultIn};
 ghost use Rattle.heads.specs.Parts.{secondOf, termOf, pairHead, termHead, connective, conditionHeadRead, conditionOperands};

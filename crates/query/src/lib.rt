@@ -1,5 +1,5 @@
-// Readers of a query: conditions and nodes with their operands. A reader takes the part of the query that starts at what it reads, and
-// answers it with the next place, or the place of the fault, both counted from the part's start.
+// Readers of a query: conditions and nodes with their operands. A reader is given the part of the query from there on, and
+// answers what it read with the next place, or where the fault is, both counted from the part's start.
 ghost use mathlib.Core.Path.{_≡_};
 ghost use Prim.Native.Nat.{_≤_};
 ghost use lib.ListN.{length};

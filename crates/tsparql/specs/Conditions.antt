@@ -22,7 +22,7 @@ notTruth holds = fails
 notTruth fails = holds
 notTruth errs = errs
 
--- false if either is false, else an error if either is
+-- one false makes it false; without one, an error makes it an error
 abbrev pub andTruth : Truth → Truth → Truth
 andTruth holds t = t
 andTruth fails t = fails
@@ -30,7 +30,7 @@ andTruth errs holds = errs
 andTruth errs fails = fails
 andTruth errs errs = errs
 
--- true if either is true, else an error if either is
+-- one true makes it true; without one, an error makes it an error
 abbrev pub orTruth : Truth → Truth → Truth
 orTruth holds t = holds
 orTruth fails t = t
@@ -53,7 +53,7 @@ comparable (term a) = true
 comparable (trusted (known t)) = true
 comparable (trusted unknown) = false
 
--- an error on a free cell or an unknown trust, else whether the cells are the same
+-- an error where a cell is free or its trust unknown; elsewhere whether the cells are the same
 abbrev pub sameTruth : Cell → Cell → Truth
 sameTruth c d = cond (comparable c && comparable d) (truth (sameCell c d)) errs
 

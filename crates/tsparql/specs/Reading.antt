@@ -1,6 +1,6 @@
--- The readers of a query (document 01, "Query bytes", and refusal 6 of "Check"). A reader takes the part of the query that starts
--- at a pattern, a condition or a node, and finds either it with the next place, behind its last operand, or the place of the first
--- fault in prefix order. Both places are counted from the part's start. Every fault of the part's own bytes is at its start; a fault
+-- The readers of a query (document 01, "Query bytes", and refusal 6 of "Check"). A reader is given a part of the query, which
+-- starts at a pattern, a condition or a node. It finds this and the next place, behind its last operand, or else where the first fault in
+-- prefix order is. Both places are counted from the part's start. Every fault of the part's own bytes is at its start; a fault
 -- of an operand is at the operand's own place. A missing operand is an empty part. Assumes nothing.
 use mathlib.Core.Bool.{Bool, true, false, _&&_, _||_, cond}
 use mathlib.Core.List.{List, [], _∷_}
