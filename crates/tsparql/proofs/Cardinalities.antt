@@ -12,7 +12,7 @@ use native.Mathlib.Omega.{arith}
 use lib.ListN.{length, take, set, length-append, length-map}
 use lib.Seq.{set-set, set-getD}
 use borrow.Author.Tests.{eqb-true, eq-eqb, not-true}
-use Rattle.tsparql.specs.Lists.{Every, consIf, onlyIf, keepIf, all, concatMap}
+use Rattle.tsparql.specs.Lists.{Every, consIf, onlyIf, keepIf, allPass, concatMap}
 use Rattle.tsparql.specs.Values.{Trust, known, unknown, Cell, free, term, trusted, Row, sameTrust, sameCell}
 use Rattle.tsparql.specs.Values.{compatible, merge, withTrust, trustInside}
 use Rattle.tsparql.specs.Query.{Pattern, Condition, Node, patternSet, join, leftJoin, union, filter, projectTrust, ensureTrust}
@@ -36,22 +36,22 @@ or-absorb true q h = sym (h refl)
 or-absorb false q h = refl
 
 -- where every element passes the first test, each passes one of two
-all-or : {A : Type 0} (p q : A → Bool) (xs : List A) → all p xs ≡ true → all (λ x. p x || q x) xs ≡ true
-all-or p q [] e = refl
-all-or p q (x ∷ xs) e = rw (and-left (p x) (all p xs) e) (all-or p q xs (and-right (p x) (all p xs) e))
+allPass-or : {A : Type 0} (p q : A → Bool) (xs : List A) → allPass p xs ≡ true → allPass (λ x. p x || q x) xs ≡ true
+allPass-or p q [] e = refl
+allPass-or p q (x ∷ xs) e = rw (and-left (p x) (allPass p xs) e) (allPass-or p q xs (and-right (p x) (allPass p xs) e))
 
-all-map : {A B : Type 0} (p : B → Bool) (f : A → B) (xs : List A) → all p (map f xs) ≡ all (λ x. p (f x)) xs
-all-map p f [] = refl
-all-map p f (x ∷ xs) = ap (λ (b : Bool). p (f x) && b) (all-map p f xs)
+allPass-map : {A B : Type 0} (p : B → Bool) (f : A → B) (xs : List A) → allPass p (map f xs) ≡ allPass (λ x. p (f x)) xs
+allPass-map p f [] = refl
+allPass-map p f (x ∷ xs) = ap (λ (b : Bool). p (f x) && b) (allPass-map p f xs)
 
-all-consIf : {A : Type 0} (p : A → Bool) (b : Bool) (x : A) (xs : List A) → all p (consIf b x xs) ≡ (not b || p x) && all p xs
-all-consIf p true x xs = refl
-all-consIf p false x xs = refl
+allPass-consIf : {A : Type 0} (p : A → Bool) (b : Bool) (x : A) (xs : List A) → allPass p (consIf b x xs) ≡ (not b || p x) && allPass p xs
+allPass-consIf p true x xs = refl
+allPass-consIf p false x xs = refl
 
 -- a test on those that pass another
-all-keepIf : {A : Type 0} (p q : A → Bool) (xs : List A) → all p (keepIf q xs) ≡ all (λ x. not (q x) || p x) xs
-all-keepIf p q [] = refl
-all-keepIf p q (x ∷ xs) = all-consIf p (q x) x (keepIf q xs) ∙ ap (λ (b : Bool). (not (q x) || p x) && b) (all-keepIf p q xs)
+allPass-keepIf : {A : Type 0} (p q : A → Bool) (xs : List A) → allPass p (keepIf q xs) ≡ allPass (λ x. not (q x) || p x) xs
+allPass-keepIf p q [] = refl
+allPass-keepIf p q (x ∷ xs) = allPass-consIf p (q x) x (keepIf q xs) ∙ ap (λ (b : Bool). (not (q x) || p x) && b) (allPass-keepIf p q xs)
 
 -- what is kept passes the test
 keepIf-passes : {A : Type 0} (p : A → Bool) (xs : List A) → Every (λ x. p x ≡ true) (keepIf p xs)
@@ -352,10 +352,10 @@ not-blocks errs = refl
 pub stands-inDifference : (c : Condition) (ys : List Row) (x : Row) → stands c (merges x ys) ≡ inDifference c ys x
 unfolding stands blocksOn
 stands-inDifference c ys x =
-    all-map (λ m. not (blocksOn c m)) (merge x) (keepIf (compatible x) ys)
-    ∙ all-keepIf (λ y. not (blocksOn c (merge x y))) (compatible x) ys
-    ∙ ap (λ (p : Row → Bool). all (λ y. not (compatible x y) || p y) ys) (fun-ext (λ y. not-blocks (truthOn (merge x y .cells) c)))
-    ∙ sym (or-absorb _ _ (all-or (λ y. not (compatible x y)) _ ys))
+    allPass-map (λ m. not (blocksOn c m)) (merge x) (keepIf (compatible x) ys)
+    ∙ allPass-keepIf (λ y. not (blocksOn c (merge x y))) (compatible x) ys
+    ∙ ap (λ (p : Row → Bool). allPass (λ y. not (compatible x y) || p y) ys) (fun-ext (λ y. not-blocks (truthOn (merge x y .cells) c)))
+    ∙ sym (or-absorb _ _ (allPass-or (λ y. not (compatible x y)) _ ys))
 
 pub cardinality-leftJoin : (c : Condition) (xs ys : List Row) (r : Row)
     → cardinality (leftJoinRows c xs ys) r ≡ leftJoinCardinality c xs ys r

@@ -23,9 +23,9 @@ module _ {A : Type 0} where
   keepIf p (x ∷ xs) = consIf (p x) x (keepIf p xs)
 
   -- every element passes the test
-  abbrev pub all : (A → Bool) → List A → Bool
-  all p [] = true
-  all p (x ∷ xs) = p x && all p xs
+  abbrev pub allPass : (A → Bool) → List A → Bool
+  allPass p [] = true
+  allPass p (x ∷ xs) = p x && allPass p xs
 
 module _ {A B : Type 0} where
   -- the lists that f makes of the elements, one after the other
