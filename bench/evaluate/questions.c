@@ -13,8 +13,18 @@
 /* ?0 has the grade; the samples ?1 of ?0. */
 #define GRADED SET(1), VARIABLE(0), TERM(GRADE), TERM(ONE_GRADE)
 #define SAMPLES SET(1), VARIABLE(0), TERM(SAMPLE), VARIABLE(1)
-/* The pan ?1 and the crew ?2 of a strike. */
-#define PAN_AND_CREW(strike) VARIABLE(strike), TERM(PAN), VARIABLE(1), VARIABLE(strike), TERM(CREW), VARIABLE(2)
+/* The pan ?1 and the crew ?2 of a strike: two patterns, and a set for each. */
+#define PAN_OF(strike) VARIABLE(strike), TERM(PAN), VARIABLE(1)
+#define CREW_OF(strike) VARIABLE(strike), TERM(CREW), VARIABLE(2)
+#define PAN_AND_CREW(strike) PAN_OF(strike), CREW_OF(strike)
+#define ONE_PAN(strike) SET(1), PAN_OF(strike)
+#define ONE_CREW(strike) SET(1), CREW_OF(strike)
+
+/* Pairs of strikes with one pan and crew. */
+#define PAIRS \
+    "WITH boiled AS (SELECT p.s, p.o AS pan, c.o AS crew, min(p.trust, c.trust) AS t FROM facts p JOIN facts c ON c.s = p.s" \
+    " WHERE p.p = :pan AND c.p = :crew)" \
+    " SELECT a.s, a.pan, a.crew, b.s, min(a.t, b.t) FROM boiled a JOIN boiled b ON b.pan = a.pan AND b.crew = a.crew"
 
 const struct question questions[] = {
     {"one strike's records", QUERY(SET(1), TERM(ONE_STRIKE), VARIABLE(0), VARIABLE(1)), .columns = 2, .variables = {0, 1},
@@ -47,10 +57,10 @@ const struct question questions[] = {
             " WHERE g.p = :grade AND g.o = :graded AND p.p = :pan AND c.p = :crew"},
 
     {"pairs with one pan and crew", QUERY(JOIN, SET(2), PAN_AND_CREW(0), SET(2), PAN_AND_CREW(3)), .columns = 4,
-     .variables = {0, 1, 2, 3},
-     .sql = "WITH boiled AS (SELECT p.s, p.o AS pan, c.o AS crew, min(p.trust, c.trust) AS t FROM facts p JOIN facts c ON c.s = p.s"
-            " WHERE p.p = :pan AND c.p = :crew)"
-            " SELECT a.s, a.pan, a.crew, b.s, min(a.t, b.t) FROM boiled a JOIN boiled b ON b.pan = a.pan AND b.crew = a.crew"},
+     .variables = {0, 1, 2, 3}, .sql = PAIRS},
+
+    {"pairs, by joins", QUERY(JOIN, JOIN, ONE_PAN(0), ONE_CREW(0), JOIN, ONE_PAN(3), ONE_CREW(3)), .columns = 4,
+     .variables = {0, 1, 2, 3}, .sql = PAIRS},
 };
 const size_t question_count = sizeof questions / sizeof questions[0];
 _Static_assert(sizeof questions / sizeof questions[0] <= MOST_QUESTIONS, "room for every question");
