@@ -78,3 +78,36 @@ pub fn all(root: &[u8], length: usize) -> Vec<Chain> {
         make.chain("not below unions", &[0x30, 0].repeat(length / 5), &[0x40], TRUE, &[], SET, NONE),
     ]
 }
+
+/// Chains of a length that end in a join, or a left join, of {?0 ?1 ?2} with itself: on 32 records it has 1,024 pairs,
+/// and each variable is set in all rows. Among them are the deepest conditions of such a left join.
+pub fn of_many_pairs(length: usize) -> Vec<Chain> {
+    let make = Maker { root: &[], length };
+    let sets = [0x01, 0x10, 0, 0, 0x10, 0, 1, 0x10, 0, 2].repeat(2);
+    let join = [&[0x10], &sets[..]].concat();
+    let left_join = [&[0x20, 0x70], &sets[..]].concat();
+    let mut chains = Vec::new();
+    for (name, end) in [("a join", &join), ("a left join", &left_join)] {
+        let mut nodes = |names, link: &[u8], tail: &[u8]| {
+            chains.push(make.chain(&format!("{names} of {name} with many pairs"), &[], link, end, tail, &[], NONE));
+        };
+        nodes("filters", &[0x40, 0x70], &[]);
+        nodes("ensure trusts", E, &[]);
+        nodes("joins to the left", &[0x10], SET);
+        nodes("joins to the right", &[0x10, 0x00], &[]);
+        nodes("left joins to the left", &[0x20, 0x70], SET);
+        nodes("left joins to the right", &[0x20, 0x70, 0x00], &[]);
+        nodes("unions to the left", &[0x30], SET);
+        nodes("unions to the right", &[0x30, 0x00], &[]);
+    }
+    let mut conditions = |name, link: &[u8], tail: &[u8]| {
+        let name = format!("{name} in a left join with many pairs");
+        chains.push(make.chain(&name, &[0x20], link, TRUE, tail, &sets, NONE));
+    };
+    conditions("not", &[0x40], &[]);
+    conditions("and to the left", &[0x50], TRUE);
+    conditions("and to the right", &[0x50, 0x70], &[]);
+    conditions("or to the left", &[0x60], TRUE);
+    conditions("or to the right", &[0x60, 0x70], &[]);
+    chains
+}

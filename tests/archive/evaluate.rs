@@ -1,13 +1,16 @@
 //! Tests `randwyler_evaluate` of the built archive: vectors, rows by hand, an independent evaluation (rows.rs) in row spaces
-//! of awkward lengths, a query beside its rewriting, limits, and the stack it needs. The last line is 'N passed, M failed'.
+//! of awkward lengths, a query beside its rewriting, limits, joins with many rows, and the stack it needs. The last line is
+//! 'N passed, M failed'.
 
 mod chains;
+mod compared;
 mod conditions;
 mod fence;
 mod ffi;
 mod inputs;
 mod known_rows;
 mod limits;
+mod many_rows;
 mod paper;
 mod push;
 mod queries;
@@ -21,17 +24,16 @@ mod tables;
 mod threads;
 mod vectors;
 
+use compared::Compared;
 use conditions::{CONDITION_KINDS, TRUTHS};
 use limits::{AtLimit, NullInput, TableAtLimit};
-use paper::{refusal, Evaluated, Refusal, Tally, CHECK_LIMIT, MOST_RECORDS, NONE};
-use push::MOST_RESULT;
+use paper::{Evaluated, Refusal, Tally, CHECK_LIMIT, MOST_RECORDS, NONE};
 use queries::{Nested, KINDS};
 use random::Random;
 use report::{hex, Report};
 use rows::{Outcome, Seen, LEFT_ROWS, MOST_ROWS, ROW_WORDS};
 use spaces::Spaces;
 use stack::Deepest;
-use std::collections::BTreeMap;
 
 const RANDOM_CASES: usize = 105_000;
 const PATTERN_SETS: usize = 102_000;
@@ -145,63 +147,6 @@ fn many_pairs(report: &mut Report) {
     report.case(space.iter().all(|word| *word == 0), || "five joins without rows: a word is not 0".to_string());
 }
 
-// ---- A query beside its rewriting
-
-/// How often the two evaluations had each pair of numbers, and how often the rewriting needed less.
-#[derive(Default)]
-struct Compared {
-    numbers: BTreeMap<(u32, u32), u64>,
-    lesser_peaks: u64,
-    fewer_pairs: u64,
-}
-
-impl Compared {
-    /// Evaluates a query and its rewriting, both by the calls, in row spaces of one length with different old contents and
-    /// with different tallies.
-    fn test(&mut self, report: &mut Report, spaces: &mut Spaces, what: &str, (table, query): (&[u8], &[u8]), words: usize) {
-        let mut output = [0; MOST_RESULT];
-        let rewritten = ffi::rewrite(query, &mut output);
-        if rewritten.refusal != NONE {
-            return;
-        }
-        let rewriting = &output[..rewritten.length as usize];
-        let [(one, one_space), (other, other_space)] = [query, rewriting].map(|query| {
-            let (mut space, tally) = (spaces.0.lend(words), spaces.tally());
-            (ffi::evaluate(table, query, space.slice_mut(), tally), space)
-        });
-        let good = match one.refusal.number {
-            0 => {
-                self.lesser_peaks += u64::from(other.peak < one.peak);
-                self.fewer_pairs += u64::from(other.pairs < one.pairs);
-                other.refusal == NONE
-                    && other.rows == one.rows
-                    && other_space.slice() == one_space.slice()
-                    && other.peak <= one.peak
-                    && other.pairs <= one.pairs
-            }
-            1..=4 => other.refusal == one.refusal,
-            8 => other.refusal == NONE || other.refusal == refusal(8, 0),
-            _ => false,
-        };
-        report.case(good, || {
-            let rewriting = format!("=> {one}, and of its rewriting {} => {other}", hex(rewriting));
-            format!("{what}: eval {} {} {words} {rewriting}", hex(table), hex(query))
-        });
-        *self.numbers.entry((one.refusal.number, other.refusal.number)).or_default() += 1;
-    }
-
-    fn enough(&self, report: &mut Report) {
-        for (one, other, least) in [(0, 0, 50_000), (8, 8, 10_000), (8, 0, 1_000), (1, 1, 100), (3, 3, 100), (4, 4, 100)] {
-            let count = self.numbers.get(&(one, other)).copied().unwrap_or(0);
-            println!("query and rewriting with numbers {one} and {other}: {count}");
-            report.case(count >= least, || format!("only {count} queries and rewritings with numbers {one} and {other}"));
-        }
-        let Compared { lesser_peaks, fewer_pairs, .. } = self;
-        println!("answered rewritings with a lesser peak: {lesser_peaks}, with fewer pairs: {fewer_pairs}");
-        report.case(*lesser_peaks >= 1_000 && *fewer_pairs >= 1_000, || "too few rewritings need less".to_string());
-    }
-}
-
 // ---- Random cases
 
 fn random_cases(report: &mut Report) {
@@ -305,20 +250,28 @@ fn on_threads(report: &mut Report) {
     });
 }
 
-/// Rows of space that do for every chain: at most one for two bytes, and two more.
-const CHAIN_WORDS: usize = (CHECK_LIMIT / 2 + 2) * ROW_WORDS;
+/// Records of the table for chains, and rows of space that do for every chain: at most one for two bytes, two more, and
+/// those of a join of all records with themselves.
+const CHAIN_RECORDS: u32 = 32;
+const CHAIN_WORDS: usize = (CHECK_LIMIT / 2 + 2 + 3 * CHAIN_RECORDS as usize) * ROW_WORDS;
 const CHAIN_TALLY: Tally = Tally { answered: 0, refused: 0 };
+
+/// The store W, and records behind it.
+fn chain_table() -> Vec<u8> {
+    let more: Vec<_> = (5..=CHAIN_RECORDS).map(|subject| ([subject, 30, 31], Some(700))).collect();
+    [tables::w(), tables::facts(&more)].concat()
+}
 
 fn deepest() -> Deepest<(Evaluated, Vec<u32>)> {
     Deepest {
         figure: "RANDWYLER_STACK_EVALUATE_KIB",
-        chains: chains::all(&[], CHECK_LIMIT),
+        chains: chains::all(&[], CHECK_LIMIT).into_iter().chain(chains::of_many_pairs(CHECK_LIMIT)).collect(),
         call: |query| {
             let mut space = vec![0xA5; CHAIN_WORDS];
-            (ffi::evaluate(&tables::w(), query, &mut space, CHAIN_TALLY), space)
+            (ffi::evaluate(&chain_table(), query, &mut space, CHAIN_TALLY), space)
         },
         expected: |query| {
-            let (answer, after) = rows::evaluate(&tables::w(), query).answer(CHAIN_WORDS, CHAIN_TALLY);
+            let (answer, after) = rows::evaluate(&chain_table(), query).answer(CHAIN_WORDS, CHAIN_TALLY);
             (answer, after.unwrap_or(vec![0xA5; CHAIN_WORDS]))
         },
     }
@@ -343,6 +296,14 @@ fn parts(report: &mut Report) {
     report.part("pattern sets");
     random_cases(report);
     report.part("random cases");
+    many_rows::one_bucket(report);
+    many_rows::set_in_some(report);
+    many_rows::trusts(report);
+    many_rows::about_many_pairs(report);
+    many_rows::longest(report);
+    many_rows::twenty_thousand(report);
+    many_rows::random_cases(report);
+    report.part("joins with many rows");
 }
 
 fn main() {

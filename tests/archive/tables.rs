@@ -44,9 +44,14 @@ pub fn table(random: &mut Random, count: usize) -> Vec<u8> {
 
 /// The same with terms of a choice.
 pub fn table_of_terms(random: &mut Random, count: usize, term: impl Fn(&mut Random) -> u32) -> Vec<u8> {
+    table_of_triples(random, count, |random| [0; 3].map(|_| term(random)))
+}
+
+/// The same with triples of a choice.
+pub fn table_of_triples(random: &mut Random, count: usize, triple: impl Fn(&mut Random) -> [u32; 3]) -> Vec<u8> {
     let mut triples = BTreeSet::new();
     for _ in 0..count {
-        triples.insert([0; 3].map(|_| term(random)));
+        triples.insert(triple(random));
     }
     let mut bytes = Vec::new();
     for triple in triples {
