@@ -110,7 +110,7 @@ fn trust_of(i: u32) -> Trust {
 
 /// The bucket of the words of two keys; of one key the word stands for both.
 fn bucket(x: u32, y: u32) -> u64 {
-    (u64::from(x) * 1_779_033_703 + u64::from(y) * 1_572_064_067) / 524_288 % 8_192
+    (u64::from(x) * 1_779_033_703 + u64::from(y) * 1_572_067_139) / 524_288 % 8_192
 }
 
 /// Right rows that all have one bucket: with different words, or all with the same.

@@ -1,6 +1,9 @@
 //! Tests the plain C evaluation that the bench times (bench/evaluate/plain.c), linked under the name `randwyler_evaluate`,
-//! against an independent evaluation (rows.rs) of random queries. The last line is 'N passed, M failed'.
+//! against an independent evaluation (rows.rs) of random queries and of joins with many rows. The last line is
+//! 'N passed, M failed'.
 
+#[path = "../archive/compared.rs"]
+mod compared;
 #[path = "../archive/conditions.rs"]
 mod conditions;
 #[path = "../archive/fence.rs"]
@@ -9,8 +12,12 @@ mod fence;
 mod ffi;
 #[path = "../archive/inputs.rs"]
 mod inputs;
+#[path = "../archive/many_rows.rs"]
+mod many_rows;
 #[path = "../archive/paper.rs"]
 mod paper;
+#[path = "../archive/push.rs"]
+mod push;
 #[path = "../archive/queries.rs"]
 mod queries;
 #[path = "../archive/random.rs"]
@@ -23,6 +30,8 @@ mod rows;
 mod spaces;
 #[path = "../archive/tables.rs"]
 mod tables;
+#[path = "../archive/vectors.rs"]
+mod vectors;
 
 use queries::KINDS;
 use random::Random;
@@ -51,5 +60,12 @@ fn main() {
     for (outcome, count) in LEFT_ROWS.iter().zip(seen.left_rows) {
         report.case(count >= 1_000, || format!("only {count} left rows were {outcome}"));
     }
+    // The right rows of large joins are chained here too.
+    many_rows::one_bucket(&mut report);
+    many_rows::set_in_some(&mut report);
+    many_rows::trusts(&mut report);
+    many_rows::about_many_pairs(&mut report);
+    many_rows::longest(&mut report);
+    many_rows::twenty_thousand(&mut report);
     std::process::exit(report.finish());
 }
