@@ -159,6 +159,7 @@ fn deepest() -> Deepest<Ceiling> {
     Deepest {
         figure: "RANDWYLER_STACK_CEILING_KIB",
         chains: chains::all(&[], CHECK_LIMIT),
+        shallow: chains::of_few_pairs(),
         call: |query| ffi::ceiling(&tables::w(), query),
         expected: |query| ceilings::ceiling(&tables::w(), query),
     }

@@ -111,3 +111,11 @@ pub fn of_many_pairs(length: usize) -> Vec<Chain> {
     conditions("or to the right", &[0x60, 0x70], &[]);
     chains
 }
+
+/// Every kind of node over {?0 ?1 ?2} and {1 ?1 ?3}: on 32 records, of which few have the subject 1, a join has few pairs.
+pub fn of_few_pairs() -> Vec<Chain> {
+    let sets = [0x01, 0x10, 0, 0, 0x10, 0, 1, 0x10, 0, 2, 0x01, 0, 0, 1, 0x10, 0, 1, 0x10, 0, 3];
+    [&[0x10][..], &[0x20, 0x70], &[0x30], &[0x40, 0x70, 0x30], &[0x5F, 0x10], &[0x60, 0x5D, 0xC7, 0xD0, 0x10]]
+        .map(|front| Chain { name: format!("{front:x?}"), query: [front, &sets].concat(), refusal: NONE })
+        .into()
+}

@@ -134,6 +134,7 @@ fn deepest() -> Deepest<Refusal> {
     Deepest {
         figure: "RANDWYLER_STACK_CHECK_KIB",
         chains: chains::all(&[], CHECK_LIMIT),
+        shallow: chains::of_few_pairs(),
         call: |query| ffi::check(&[], query),
         expected: |query| paper::check(&[], query),
     }

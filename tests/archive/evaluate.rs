@@ -266,6 +266,7 @@ fn deepest() -> Deepest<(Evaluated, Vec<u32>)> {
     Deepest {
         figure: "RANDWYLER_STACK_EVALUATE_KIB",
         chains: chains::all(&[], CHECK_LIMIT).into_iter().chain(chains::of_many_pairs(CHECK_LIMIT)).collect(),
+        shallow: chains::of_few_pairs(),
         call: |query| {
             let mut space = vec![0xA5; CHAIN_WORDS];
             (ffi::evaluate(&chain_table(), query, &mut space, CHAIN_TALLY), space)

@@ -14,21 +14,25 @@ const MOST: usize = 8192;
 /// No thread has less.
 const LEAST: usize = 16;
 const STEP: usize = 4;
+/// Does for a shallow query, in KiB.
+const SHALLOW: usize = 64;
 
 /// A call and the deepest queries that it takes.
 pub struct Deepest<Answer> {
     /// The header's name for the stack, in KiB, that the call needs.
     pub figure: &'static str,
     pub chains: Vec<Chain>,
+    /// Queries of a few levels that do with little stack: no large local stands in a frame that they take.
+    pub shallow: Vec<Chain>,
     pub call: fn(&[u8]) -> Answer,
     /// The answer by an independent reading.
     pub expected: fn(&[u8]) -> Answer,
 }
 
 impl<Answer: PartialEq + Send> Deepest<Answer> {
-    /// The call's answers to all chains, on a thread with so many KiB of stack.
-    fn answers(&self, kib: usize) -> Vec<Answer> {
-        let (chains, call) = (&self.chains, self.call);
+    /// The call's answers to some chains, on a thread with so many KiB of stack.
+    fn answers(&self, chains: &[Chain], kib: usize) -> Vec<Answer> {
+        let call = self.call;
         thread::scope(|scope| {
             let calls = move || chains.iter().map(|chain| call(&chain.query)).collect();
             let builder = thread::Builder::new().stack_size(kib * 1024);
@@ -36,8 +40,8 @@ impl<Answer: PartialEq + Send> Deepest<Answer> {
         })
     }
 
-    fn right_on(&self, kib: usize) -> bool {
-        self.chains.iter().zip(self.answers(kib)).all(|(chain, answer)| (self.expected)(&chain.query) == answer)
+    fn right_on(&self, chains: &[Chain], kib: usize) -> bool {
+        chains.iter().zip(self.answers(chains, kib)).all(|(chain, answer)| (self.expected)(&chain.query) == answer)
     }
 
     /// The deepest queries on 8 MiB of stack, and the least stack that does.
@@ -46,7 +50,9 @@ impl<Answer: PartialEq + Send> Deepest<Answer> {
             println!("least stack: above {MOST} KiB");
             return report.case(false, || format!("the deepest query overflows a stack of {MOST} KiB"));
         }
-        for (chain, got) in self.chains.iter().zip(self.answers(MOST)) {
+        let shallow = run_child(&["--shallow"]) == Some(0);
+        report.case(shallow, || format!("a shallow query is not answered right on a stack of {SHALLOW} KiB"));
+        for (chain, got) in self.chains.iter().zip(self.answers(&self.chains, MOST)) {
             let read = paper::query(&chain.query, chain.query.len()).err().unwrap_or(NONE);
             report.case(read == chain.refusal, || format!("{}: paper.rs differs", chain.name));
             report.case(got == (self.expected)(&chain.query), || format!("{}: another answer", chain.name));
@@ -69,12 +75,17 @@ impl<Answer: PartialEq + Send> Deepest<Answer> {
     }
 }
 
-/// The exit status of a child with so many KiB of stack; none if a signal ended it, as an overflow does.
-fn child_status(kib: usize) -> Option<i32> {
+/// The exit status of this program with other arguments; none if a signal ended it, as an overflow does.
+fn run_child(arguments: &[&str]) -> Option<i32> {
     let program = std::env::current_exe().expect("the path of this program");
     let mut command = Command::new(program);
-    command.args(["--stack", &kib.to_string()]).stdout(Stdio::null()).stderr(Stdio::null());
+    command.args(arguments).stdout(Stdio::null()).stderr(Stdio::null());
     command.status().expect("a child process").code()
+}
+
+/// The exit status of a child with so many KiB of stack for the deepest queries.
+fn child_status(kib: usize) -> Option<i32> {
+    run_child(&["--stack", &kib.to_string()])
 }
 
 fn fits(kib: usize) -> bool {
@@ -102,7 +113,8 @@ fn least() -> Option<usize> {
 }
 
 /// What a test program's main does: runs the test's own `parts`, and then, as every call's test, threads and the deepest queries; or, as
-/// a child with `--stack KIB`, ends with 0 if the deepest queries are answered right on so small a stack.
+/// a child with `--stack KIB`, ends with 0 if the deepest queries are answered right on so small a stack, and with `--shallow`, if the
+/// shallow ones are on theirs.
 pub fn main<Answer: PartialEq + Send + 'static>(
     parts: fn(&mut Report),
     on_threads: fn(&mut Report),
@@ -122,9 +134,16 @@ pub fn main<Answer: PartialEq + Send + 'static>(
         [] => Box::new(run),
         [option, kib] if option == "--stack" => {
             let kib = kib.parse().expect("a number of KiB");
-            Box::new(move || i32::from(!deepest().right_on(kib)))
+            Box::new(move || {
+                let deepest = deepest();
+                i32::from(!deepest.right_on(&deepest.chains, kib))
+            })
         }
-        _ => panic!("the only option is --stack KIB"),
+        [option] if option == "--shallow" => Box::new(move || {
+            let deepest = deepest();
+            i32::from(!deepest.right_on(&deepest.shallow, SHALLOW))
+        }),
+        _ => panic!("the options are --stack KIB and --shallow"),
     };
     let status = thread::Builder::new().stack_size(OWN_STACK).spawn(act).expect("a thread").join().unwrap_or(101);
     std::process::exit(status);
