@@ -8,11 +8,12 @@ use native.Mathlib.Omega.{arith}
 use borrow.Author.Tests.{ltb-true, ltb-false}
 use lib.Dec.{ltb}
 use lib.ListN.{length, length-append}
-use Rattle.tsparql.specs.Lists.{concatMap, Every, upFrom}
+use Rattle.tsparql.specs.Lists.{concatMap, Every}
 use Rattle.tsparql.specs.Values.{Trust, known, unknown, Sound, Cell, free, term, trusted, Row, variables, cellAt}
 use Rattle.tsparql.specs.Check.{Refusal}
 use Rattle.tsparql.specs.Evaluate.{Evaluated}
 use Rattle.tsparql.specs.Strikes.{ascii, decimal, thousandths, trustText, valueText, cellText, rowLine, refusedLine, countsLine}
+use Rattle.tsparql.proofs.ListLaws.{every-upFrom}
 use Rattle.cells.specs.Words.{Formed}
 use Rattle.rows.specs.RowWords.{RowFormed}
 use Rattle.rows.proofs.OperatorLaws.{cellAt-formed}
@@ -75,10 +76,6 @@ pub concatMap-size : {A : Type 0} (f : A → List ℕ) (k : ℕ) (xs : List A) �
 concatMap-size f k [] e = zero-le
 concatMap-size f k (x ∷ xs) e =
     rw (length-append (f x) (concatMap f xs), mul-suc k (length xs)) (omega (arith, e .0, concatMap-size f k xs (e .1)))
-
-every-upFrom : (P : ℕ → Type 0) (i n : ℕ) → ((v : ℕ) → v < i + n → P v) → Every P (upFrom i n)
-every-upFrom P i zero h = tt
-every-upFrom P i (suc n) h = (h i (omega arith), every-upFrom P (suc i) n (λ v l. h v (omega arith)))
 
 -- ---- lines
 

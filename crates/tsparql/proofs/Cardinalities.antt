@@ -1,6 +1,7 @@
--- The rows of a node have the cardinalities of the published algebra (specs/Cardinality.antt), theorem cardinality-published.
+-- The rows that an operator makes have the cardinalities of the published algebra (specs/Cardinality.antt); pattern sets, and all nodes
+-- together, are in Solutions.
 -- By group: tests and lists; the tests of sameness are equality; sums over lists; a sum over a list is one over its distinct rows
--- (sum-distinct); the cardinality of a row in lists put together; a law per operator; nodes; and Definition 3.1 as it is published,
+-- (sum-distinct); the cardinality of a row in lists put together; a law per operator; and Definition 3.1 as it is published,
 -- for a variable that is free (cardinality-project-free).
 -- Assumes nothing.
 use mathlib.Core.Path.{_≡_, refl, sym, ap, ap₂, _∙_, fun-ext}
@@ -15,15 +16,15 @@ use borrow.Author.Tests.{eqb-true, eq-eqb, not-true}
 use Rattle.tsparql.specs.Lists.{Every, consIf, onlyIf, keepIf, allPass, concatMap}
 use Rattle.tsparql.specs.Values.{Trust, known, unknown, Cell, free, term, trusted, Row, sameTrust, sameCell}
 use Rattle.tsparql.specs.Values.{compatible, merge, withTrust, trustInside}
-use Rattle.tsparql.specs.Query.{Pattern, Condition, Node, patternSet, join, leftJoin, union, filter, projectTrust, ensureTrust}
+use Rattle.tsparql.specs.Query.{Condition}
 use Rattle.tsparql.specs.Conditions.{Truth, holds, fails, errs, truthOn, trueOn, blocks, blocksOn}
-use Rattle.tsparql.specs.Rows.{merges, joinRows, stands, leftJoinRows, rowsOf}
+use Rattle.tsparql.specs.Rows.{merges, joinRows, stands, leftJoinRows}
 use Rattle.tsparql.specs.Cardinality.{FreeAt, sameCells, sameRow, cardinality, distinct, sumOver, countIf, isFalse, inDifference}
 use Rattle.tsparql.specs.Cardinality.{joinCardinality, filterCardinality, differenceCardinality, leftJoinCardinality}
-use Rattle.tsparql.specs.Cardinality.{unionCardinality, projectCardinality, ensureCardinality, publishedCardinality}
+use Rattle.tsparql.specs.Cardinality.{unionCardinality, projectCardinality, ensureCardinality}
 use Rattle.tsparql.proofs.ListLaws.{and-left, and-right, and-both, test-eq, every-of, every-weaken}
 use Rattle.tsparql.proofs.ListLaws.{consIf-append, keepIf-append, keepIf-keepIf, keepIf-cong, keepIf-and}
-use Rattle.tsparql.proofs.ListLaws.{keepIf-none, keepIf-map, keepIf-concatMap}
+use Rattle.tsparql.proofs.ListLaws.{keepIf-none, keepIf-passes, keepIf-map, keepIf-concatMap}
 
 -- ---- tests and lists
 
@@ -52,15 +53,6 @@ allPass-consIf p false x xs = refl
 allPass-keepIf : {A : Type 0} (p q : A → Bool) (xs : List A) → allPass p (keepIf q xs) ≡ allPass (λ x. not (q x) || p x) xs
 allPass-keepIf p q [] = refl
 allPass-keepIf p q (x ∷ xs) = allPass-consIf p (q x) x (keepIf q xs) ∙ ap (λ (b : Bool). (not (q x) || p x) && b) (allPass-keepIf p q xs)
-
--- what is kept passes the test
-keepIf-passes : {A : Type 0} (p : A → Bool) (xs : List A) → Every (λ x. p x ≡ true) (keepIf p xs)
-keepIf-passes p [] = tt
-keepIf-passes p (x ∷ xs) = at (p x) refl (keepIf-passes p xs)
-  where
-    at : (b : Bool) → p x ≡ b → Every (λ y. p y ≡ true) (keepIf p xs) → Every (λ y. p y ≡ true) (consIf b x (keepIf p xs))
-    at true e h = (e, h)
-    at false e h = h
 
 -- each element that passes a test, as a list of its own
 concatMap-single : {A : Type 0} (p : A → Bool) (xs : List A) → concatMap (λ x. consIf (p x) x []) xs ≡ keepIf p xs
@@ -383,20 +375,6 @@ cardinality-project v xs r = cardinality-map (withTrust v) xs r ∙ length-keepI
 
 pub cardinality-ensure : (l u : ℕ) (xs : List Row) (r : Row) → cardinality (keepIf (trustInside l u) xs) r ≡ ensureCardinality l u xs r
 cardinality-ensure l u xs r = cardinality-keepIf (trustInside l u) xs r
-
--- ---- nodes
-
--- how often a row stands among the rows of a node is the published cardinality
-pub cardinality-published : (base : List Pattern → List Row) (q : Node) (r : Row)
-    → cardinality (rowsOf base q) r ≡ publishedCardinality base q r
-unfolding rowsOf publishedCardinality
-cardinality-published base (patternSet ps) r = refl
-cardinality-published base (join x y) r = cardinality-join (rowsOf base x) (rowsOf base y) r
-cardinality-published base (leftJoin c x y) r = cardinality-leftJoin c (rowsOf base x) (rowsOf base y) r
-cardinality-published base (union x y) r = cardinality-union (rowsOf base x) (rowsOf base y) r
-cardinality-published base (filter c x) r = cardinality-filter c (rowsOf base x) r
-cardinality-published base (projectTrust v x) r = cardinality-project v (rowsOf base x) r
-cardinality-published base (ensureTrust l u x) r = cardinality-ensure l u (rowsOf base x) r
 
 -- ---- Definition 3.1 as it is published
 

@@ -1,6 +1,6 @@
 -- The worked cases of document 01 and some more, as one table about the definitions with one proof, by computation.
 -- An entry has what the definitions give on its left and what document 01 says on its right, worked out by hand (texts go through
--- `ascii`, and one printout stands in numbers). Groups: cases 1 to 9; rows, order and trust; push; conditions; ceilings and tallies;
+-- `ascii`, and one printout stands in numbers). Groups: cases 1 to 9; rows, order and trust, solutions; push; conditions; ceilings and tallies;
 -- refusals and their places. Inputs are in hexadecimal. Printouts are computed by a form of `strikes` that works nothing out twice.
 -- Assumes nothing.
 use mathlib.Core.Path.{_≡_, refl, ap, _∙_}
@@ -12,11 +12,13 @@ use Prim.Native.String.{String, [] as ε, _∷_ as _then_}
 use lib.Dec.{eqb, ltb}
 use lib.ListN.{length, replicate, length-replicate}
 use Rattle.tsparql.specs.Lists.{consIf, concatMap, upFrom}
-use Rattle.tsparql.specs.Values.{Row, compatible, mergeCells}
+use Rattle.tsparql.specs.Values.{known, Cell, free, term, Row, compatible, mergeCells}
+use Rattle.tsparql.specs.Query.{Slot, aTerm, aVariable, Pattern}
 use Rattle.tsparql.specs.Conditions.{truthOn, trueOn, blocksOn}
 use Rattle.tsparql.specs.Rows.{stands, rowsOf, spaceOf, pairsOf}
 use Rattle.tsparql.specs.Table.{Fact, bigEndian, recordAt, factOf, below, wholeTable, factAt, factsIn}
 use Rattle.tsparql.specs.PatternSets.{bindPattern, matches, choices, least, setRows, rowsOver, spaceOver, pairsOver}
+use Rattle.tsparql.specs.Tuples.{tuples, tupleRows}
 use Rattle.tsparql.specs.Ceiling.{matching, product, ceilingOf}
 use Rattle.tsparql.specs.Push.{push}
 use Rattle.tsparql.specs.Writing.{patternBytes, conditionBytes, nodeBytes}
@@ -30,6 +32,7 @@ use Rattle.tsparql.specs.Rewrite.{rewriting, rewriteRefusal, rewrite}
 use Rattle.tsparql.specs.Calls.{evaluateUntallied, ceilingOver, ceilingCall, Tally, tallied, run}
 use Rattle.tsparql.specs.Strikes.{ascii, digits, decimal, rowLine, refusedLine, countsLine, report}
 use Rattle.tsparql.specs.Strikes.{factsLimit, programRows, strikes}
+use Rattle.tsparql.specs.Cardinality.{setCardinality}
 
 -- ---- hexadecimal
 
@@ -151,6 +154,24 @@ tallies : Tally → List (List ℕ) → List ℕ
 tallies a qs = let b = run a (map (λ q. record { table = W; query = q; rowSpace = replicate 17 7 }) qs) in
     b .answered ∷ b .refused ∷ []
 
+-- a pattern of three slots
+triple : Slot → Slot → Slot → Pattern
+triple s p o = record { subject = s; predicate = p; object = o }
+
+-- the lines of the rows of a pattern set over W, by tuples of records
+tupleLines : List Pattern → List ℕ
+tupleLines ps = concatMap rowLine (tupleRows least (factsIn (wholeTable W) W) ps)
+
+-- the patterns of A and B in one set
+setAB : List Pattern
+setAB = triple (aVariable 0) (aTerm 20) (aTerm 21) ∷ triple (aVariable 0) (aTerm 10) (aVariable 1) ∷ []
+
+-- how often a row stands among the solutions of that set over W: its first cells, the others being free, and its trust plus 1000
+solutions : List Cell → ℕ → List ℕ
+solutions cs t =
+    let r : Row = record { cells = cs ++ replicate (16 - length cs) free; trust = known t } in
+    setCardinality least (factsIn (wholeTable W) W) setAB r ∷ []
+
 -- no row of A, and both, under a filter
 noRows : List ℕ
 noRows = ascii "rows 0 peak 2 pairs 0\n"
@@ -229,6 +250,16 @@ moreCases =
     -- a set of two patterns: by the first pattern's record, then the second's; the least trust
     ∷ (W with hex "02 10 00 00 00 00 0A 10 00 01 10 00 02 00 00 14 00 00 15"
     prints ascii "rows 4 peak 4 pairs 0\n800 ?0=1 ?1=11 ?2=1\n? ?0=1 ?1=11 ?2=2\n200 ?0=1 ?1=12 ?2=1\n? ?0=1 ?1=12 ?2=2\n")
+    -- the same set by tuples of records; one whose patterns share a variable; one in which a variable would get two terms
+    ∷ (tupleLines (triple (aVariable 0) (aTerm 10) (aVariable 1) ∷ triple (aVariable 2) (aTerm 20) (aTerm 21) ∷ [])
+    gives ascii "800 ?0=1 ?1=11 ?2=1\n? ?0=1 ?1=11 ?2=2\n200 ?0=1 ?1=12 ?2=1\n? ?0=1 ?1=12 ?2=2\n")
+    ∷ (tupleLines setAB gives ascii "800 ?0=1 ?1=11\n200 ?0=1 ?1=12\n")
+    ∷ (tupleLines (triple (aVariable 0) (aTerm 10) (aVariable 0) ∷ []) gives [])
+    -- solutions: with the trust of the records once; with another trust, with a free variable, with one that stands nowhere, never
+    ∷ (solutions (term 1 ∷ term 11 ∷ []) 1800 gives 1 ∷ [])
+    ∷ (solutions (term 1 ∷ term 11 ∷ []) 1900 gives 0 ∷ [])
+    ∷ (solutions (term 1 ∷ []) 1800 gives 0 ∷ [])
+    ∷ (solutions (term 1 ∷ term 11 ∷ term 1 ∷ []) 1800 gives 0 ∷ [])
     -- a variable that stands twice gets one term: {?0 10 ?0} has no row
     ∷ (W with hex "01 10 00 00 00 00 0A 10 00 00" prints ascii "rows 0 peak 0 pairs 0\n")
     -- a join: by the left row, then the right row
@@ -424,7 +455,7 @@ unfolding nibble nibbles inPairs hex W twoRecords lowAndHigh negative A B C none
 inputs = tt
 
 entries : Unit {0}
-unfolding evaluated checked ceilings rewritten fields tallies noRows bothRows worked reported quick expected
+unfolding evaluated checked ceilings rewritten fields tallies triple tupleLines setAB solutions noRows bothRows worked reported quick expected
 entries = tt
 
 groups : Unit {0}
@@ -432,7 +463,7 @@ unfolding paperCases moreCases pushCases conditionCases figureCases refusalCases
 groups = tt
 
 rows : Unit {0}
-unfolding compatible mergeCells truthOn trueOn blocksOn stands rowsOf spaceOf pairsOf bindPattern matches choices least setRows
+unfolding compatible mergeCells truthOn trueOn blocksOn stands rowsOf spaceOf pairsOf bindPattern matches choices least setRows tuples tupleRows
 rows = tt
 
 tables : Unit {0}

@@ -14,6 +14,7 @@ pub mod PushQuery
 -- What the checks give
 pub mod RefusalLaws
 pub mod ChoiceLaws
+pub mod TupleLaws
 pub mod TableLaws
 pub mod QueryLaws
 -- The calls
@@ -26,7 +27,7 @@ pub mod TallyLaws
 pub mod Demand3
 -- The published algebra
 pub mod Cardinalities
-pub mod SetOnce
+pub mod Solutions
 pub mod FreeVariables
 -- Text, and the table of cases
 pub mod TextLaws

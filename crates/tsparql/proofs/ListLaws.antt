@@ -1,14 +1,18 @@
--- Laws of the functions on lists (specs/Lists.antt): tests; what holds of every element; keepIf, consIf and onlyIf; map and concatMap.
+-- Laws of the functions on lists (specs/Lists.antt): tests; what holds of every element; allPass, anyPass; keepIf, consIf and onlyIf; map and
+-- concatMap.
 -- Laws of length, take, drop, set and the like are the library's (lib.ListN, lib.Seq).
 -- Assumes nothing.
 use mathlib.Core.Path.{_≡_, refl, sym, ap, _∙_}
-use mathlib.Core.Bool.{Bool, true, false, _&&_, _||_, and-comm}
+use mathlib.Core.Bool.{Bool, true, false, _&&_, _||_, not, and-comm, and-assoc, and-false, or-assoc, or-true}
 use mathlib.Core.List.{List, [], _∷_, _++_, map, append-assoc}
 pub use mathlib.Core.List.{map-append}
-use Prim.Native.Nat.{suc, _≤_, zero-le, suc-le-suc}
+use Prim.Native.Nat.{ℕ, zero, suc, _+_, _≤_, _<_, zero-le, suc-le-suc}
 use native.Mathlib.Nat.{le-refl, le-step, le-trans, add-le-add}
-use lib.ListN.{length, length-append}
-use Rattle.tsparql.specs.Lists.{Every, consIf, onlyIf, keepIf, concatMap}
+use native.Mathlib.Omega.{arith}
+use borrow.Author.Tests.{eqb-true, eqb-false, eq-eqb}
+use lib.Dec.{eqb}
+use lib.ListN.{length, getD, length-append}
+use Rattle.tsparql.specs.Lists.{Every, consIf, onlyIf, keepIf, allPass, anyPass, concatMap, upFrom}
 
 -- ---- tests
 
@@ -27,6 +31,10 @@ and-both d e = rw (d, e)
 pub or-right : (p q : Bool) → p || q ≡ true → p ≡ false → q ≡ true
 or-right true q e f = cc
 or-right false q e f = e
+
+pub and-swap : (a b c d : Bool) → (a && b) && (c && d) ≡ (a && c) && (b && d)
+and-swap true b c d = sym (and-assoc b c d) ∙ ap (λ (e : Bool). e && d) (and-comm b c) ∙ and-assoc c b d
+and-swap false b c d = refl
 
 -- two tests are equal where each gives the other
 pub test-eq : (p q : Bool) → (p ≡ true → q ≡ true) → (q ≡ true → p ≡ true) → p ≡ q
@@ -74,6 +82,57 @@ module _ {A B : Type 0} where
   every-concatMap P f [] e = tt
   every-concatMap P f (x ∷ xs) e = every-append P (f x) (concatMap f xs) (e .0) (every-concatMap P f xs (e .1))
 
+-- what holds of n numbers from i on
+pub every-upFrom : (P : ℕ → Type 0) (i n : ℕ) → ((v : ℕ) → v < i + n → P v) → Every P (upFrom i n)
+every-upFrom P i zero h = tt
+every-upFrom P i (suc n) h = (h i (omega arith), every-upFrom P (suc i) n (λ v l. h v (omega arith)))
+
+-- ---- allPass and anyPass
+
+module _ {A : Type 0} where
+  pub allPass-every : (p : A → Bool) (xs : List A) → Every (λ x. p x ≡ true) xs → allPass p xs ≡ true
+  allPass-every p [] e = refl
+  allPass-every p (x ∷ xs) e = and-both (e .0) (allPass-every p xs (e .1))
+
+  pub allPass-passes : (p : A → Bool) (xs : List A) → allPass p xs ≡ true → Every (λ x. p x ≡ true) xs
+  allPass-passes p [] e = tt
+  allPass-passes p (x ∷ xs) e = (and-left (p x) (allPass p xs) e, allPass-passes p xs (and-right (p x) (allPass p xs) e))
+
+  -- two tests that agree on every element
+  pub allPass-cong : (p q : A → Bool) (xs : List A) → Every (λ x. p x ≡ q x) xs → allPass p xs ≡ allPass q xs
+  allPass-cong p q [] e = refl
+  allPass-cong p q (x ∷ xs) e = rw (e .0, allPass-cong p q xs (e .1))
+
+  pub allPass-append : (p : A → Bool) (xs ys : List A) → allPass p (xs ++ ys) ≡ allPass p xs && allPass p ys
+  allPass-append p [] ys = refl
+  allPass-append p (x ∷ xs) ys =
+      ap (λ (b : Bool). p x && b) (allPass-append p xs ys) ∙ sym (and-assoc (p x) (allPass p xs) (allPass p ys))
+
+  -- two tests are one
+  pub allPass-and : (p q : A → Bool) (xs : List A) → allPass (λ x. p x && q x) xs ≡ allPass p xs && allPass q xs
+  allPass-and p q [] = refl
+  allPass-and p q (x ∷ xs) = rw (allPass-and p q xs) (and-swap (p x) (q x) (allPass p xs) (allPass q xs))
+
+  pub anyPass-append : (p : A → Bool) (xs ys : List A) → anyPass p (xs ++ ys) ≡ anyPass p xs || anyPass p ys
+  anyPass-append p [] ys = refl
+  anyPass-append p (x ∷ xs) ys =
+      ap (λ (b : Bool). p x || b) (anyPass-append p xs ys) ∙ sym (or-assoc (p x) (anyPass p xs) (anyPass p ys))
+
+-- a test that fails for one of n numbers from i on
+pub allPass-fails : (p : ℕ → Bool) (i n m : ℕ) → i ≤ m → m < i + n → p m ≡ false → allPass p (upFrom i n) ≡ false
+allPass-fails p i zero m h k e = absurd (omega arith)
+allPass-fails p i (suc n) m h k e = by (eqb i m) refl (λ l. allPass-fails p (suc i) n m l (omega arith) e)
+  where
+    by : (t : Bool) → eqb i m ≡ t → (suc i ≤ m → allPass p (upFrom (suc i) n) ≡ false) → p i && allPass p (upFrom (suc i) n) ≡ false
+    by true d again = rw (eqb-true i m d, e)
+    by false d again = let z = eqb-false i m d in rw (again (omega arith)) (and-false (p i))
+
+-- a test of one of n numbers from i on
+pub allPass-only : (i n m : ℕ) (b : Bool) → i ≤ m → m < i + n → allPass (λ v. not (eqb v m) || b) (upFrom i n) ≡ b
+allPass-only i n m true h k =
+    allPass-every (λ v. not (eqb v m) || true) (upFrom i n) (every-of (λ v. or-true (not (eqb v m))) (upFrom i n))
+allPass-only i n m false h k = allPass-fails (λ v. not (eqb v m) || false) i n m h k (rw (eq-eqb m m refl))
+
 -- ---- keepIf, consIf, onlyIf
 
 module _ {A : Type 0} where
@@ -120,6 +179,15 @@ module _ {A : Type 0} where
   pub keepIf-under : (b : Bool) (p : A → Bool) (xs : List A) → Every (λ x. p x ≡ b && p x) xs → keepIf p xs ≡ onlyIf b (keepIf p xs)
   keepIf-under b p xs e = keepIf-cong p (λ x. b && p x) xs e ∙ keepIf-and b p xs
 
+  -- what is kept passes the test
+  pub keepIf-passes : (p : A → Bool) (xs : List A) → Every (λ x. p x ≡ true) (keepIf p xs)
+  keepIf-passes p [] = tt
+  keepIf-passes p (x ∷ xs) = at (p x) refl (keepIf-passes p xs)
+    where
+      at : (b : Bool) → p x ≡ b → Every (λ y. p y ≡ true) (keepIf p xs) → Every (λ y. p y ≡ true) (consIf b x (keepIf p xs))
+      at true e h = (e, h)
+      at false e h = h
+
   -- a test that no element passes
   pub keepIf-none : (p : A → Bool) (xs : List A) → Every (λ x. p x ≡ false) xs → keepIf p xs ≡ []
   keepIf-none p [] e = refl
@@ -138,6 +206,14 @@ module _ {A : Type 0} where
   length-keepIf p (x ∷ xs) = le-trans (length-consIf (p x) x (keepIf p xs)) (suc-le-suc (length-keepIf p xs))
 
 -- ---- map and concatMap
+
+-- element v of what f makes of n numbers from i on
+pub getD-map-upFrom : {A : Type 0} (f : ℕ → A) (i n v : ℕ) (d : A) → v < n → getD (map f (upFrom i n)) v d ≡ f (i + v)
+getD-map-upFrom f i zero v d h = absurd (omega arith)
+getD-map-upFrom f i (suc n) zero d h = let e : i ≡ i + 0 = omega arith in ap f e
+getD-map-upFrom f i (suc n) (suc v) d h =
+    let e : suc i + v ≡ i + suc v = omega arith in
+    getD-map-upFrom f (suc i) n v d (omega arith) ∙ ap f e
 
 module _ {A B : Type 0} where
   pub map-consIf : (f : A → B) (b : Bool) (x : A) (xs : List A) → map f (consIf b x xs) ≡ consIf b (f x) (map f xs)
@@ -168,9 +244,24 @@ module _ {A B : Type 0} where
   keepIf-concatMap p f (x ∷ xs) =
       keepIf-append p (f x) (concatMap f xs) ∙ ap (λ (r : List B). keepIf p (f x) ++ r) (keepIf-concatMap p f xs)
 
+  -- two functions that agree everywhere
+  pub concatMap-same : (f g : A → List B) (xs : List A) → ((x : A) → f x ≡ g x) → concatMap f xs ≡ concatMap g xs
+  concatMap-same f g [] e = refl
+  concatMap-same f g (x ∷ xs) e = rw (e x, concatMap-same f g xs e)
+
+  -- two functions that agree on every element
+  pub map-cong : (f g : A → B) (xs : List A) → Every (λ x. f x ≡ g x) xs → map f xs ≡ map g xs
+  map-cong f g [] e = refl
+  map-cong f g (x ∷ xs) e = rw (e .0, map-cong f g xs (e .1))
+
   pub length-concatMap-keepIf : (f : A → List B) (p : A → Bool) (xs : List A)
       → length (concatMap f (keepIf p xs)) ≤ length (concatMap f xs)
   length-concatMap-keepIf f p [] = zero-le
   length-concatMap-keepIf f p (x ∷ xs) =
       rw (concatMap-consIf, length-append (onlyIf (p x) (f x)), length-append (f x))
       (add-le-add (length-onlyIf (p x) (f x)) (length-concatMap-keepIf f p xs))
+
+module _ {A B C : Type 0} where
+  pub map-concatMap : (g : B → C) (f : A → List B) (xs : List A) → map g (concatMap f xs) ≡ concatMap (λ x. map g (f x)) xs
+  map-concatMap g f [] = refl
+  map-concatMap g f (x ∷ xs) = map-append g (f x) (concatMap f xs) ∙ ap (λ (r : List C). map g (f x) ++ r) (map-concatMap g f xs)

@@ -7,6 +7,7 @@ pub mod Table
 pub mod Conditions
 pub mod Rows
 pub mod PatternSets
+pub mod Tuples
 pub mod Ceiling
 pub mod Push
 pub mod Writing

@@ -2,7 +2,7 @@
 -- element, rising numbers.
 -- Their laws are in proofs/ListLaws.antt. Length, take, drop, set and the like are the library's (lib.ListN).
 -- Assumes nothing.
-use mathlib.Core.Bool.{Bool, true, false, _&&_}
+use mathlib.Core.Bool.{Bool, true, false, _&&_, _||_}
 use mathlib.Core.List.{List, [], _∷_, _++_}
 use Prim.Native.Nat.{ℕ, zero, suc}
 
@@ -26,6 +26,11 @@ module _ {A : Type 0} where
   abbrev pub allPass : (A → Bool) → List A → Bool
   allPass p [] = true
   allPass p (x ∷ xs) = p x && allPass p xs
+
+  -- some element passes the test
+  abbrev pub anyPass : (A → Bool) → List A → Bool
+  anyPass p [] = false
+  anyPass p (x ∷ xs) = p x || anyPass p xs
 
 module _ {A B : Type 0} where
   -- the lists that f makes of the elements, one after the other

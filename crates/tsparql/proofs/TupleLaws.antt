@@ -1,0 +1,285 @@
+-- A pattern set lists the rows that document 01 says (specs/Tuples.antt), theorem setRows-tuples: for all patterns and facts. In order:
+-- the choices are the tuples whose places fit in turn; whether they do is told by the terms of each variable alone; and so are the
+-- cells that they leave. Assumes nothing.
+use mathlib.Core.Path.{_≡_, refl, sym, ap, _∙_}
+use mathlib.Core.Bool.{Bool, true, false, _&&_, _||_, not, and-comm, and-assoc, or-true}
+use mathlib.Core.List.{List, [], _∷_, _++_, map, map-map}
+use Prim.Native.Nat.{ℕ, _<_}
+use native.Mathlib.Nat.{zero-add}
+use native.Mathlib.Omega.{arith}
+use borrow.Author.Tests.{eqb-true, eqb-false, leb-true, leb-false}
+use lib.Dec.{eqb, leb}
+use lib.ListN.{length, set, length-set, List·getD-eq-default}
+use lib.Seq.{getD-set-same, getD-set-other, ext-getD}
+use Rattle.tsparql.specs.Lists.{Every, onlyIf, keepIf, allPass}
+use Rattle.tsparql.specs.Values.{Cell, free, term, cellAt, variables, noCells, agree}
+use Rattle.tsparql.specs.Query.{Slot, aTerm, aVariable, Pattern}
+use Rattle.tsparql.specs.Table.{Fact}
+use Rattle.tsparql.specs.PatternSets.{slotFits, bindSlot, bindPattern, matches, Choice, withFact, choices}
+use Rattle.tsparql.specs.PatternSets.{Aggregate, choiceRow, setRows}
+use Rattle.tsparql.specs.Tuples.{tuples, Place, patternPlaces, places, termStands, termsStand, isVariable, termsFor}
+use Rattle.tsparql.specs.Tuples.{oneTerm, fits, gotten, placedCells, tupleRow, tupleRows}
+use Rattle.tsparql.proofs.ListLaws.{and-left, and-right, every-of, every-weaken, every-upFrom}
+use Rattle.tsparql.proofs.ListLaws.{allPass-every, allPass-passes, allPass-cong, allPass-and, allPass-only, keepIf-passes, keepIf-cong, keepIf-and, map-onlyIf, keepIf-map}
+use Rattle.tsparql.proofs.ListLaws.{keepIf-concatMap, map-concatMap, concatMap-same, map-cong, getD-map-upFrom}
+use Rattle.tsparql.proofs.ChoiceLaws.{choicesBy}
+
+-- ---- the choices, by tuples
+
+-- the terms fit their slots one after the other, given the cells that are set
+abbrev fitInTurn : List Place → List Cell → Bool
+fitInTurn [] cs = true
+fitInTurn (x ∷ xs) cs = slotFits (x .slot) (x .value) cs && fitInTurn xs (bindSlot (x .slot) (x .value) cs)
+
+-- the cells that they leave
+abbrev bindInTurn : List Place → List Cell → List Cell
+bindInTurn [] cs = cs
+bindInTurn (x ∷ xs) cs = bindInTurn xs (bindSlot (x .slot) (x .value) cs)
+
+-- the choice that a tuple makes
+abbrev tupleChoice : List Pattern → List Cell → List Fact → Choice
+tupleChoice ps cs us = record { cells = bindInTurn (places ps us) cs; used = us }
+
+-- a pattern that matches is three slots that fit in turn
+matches-places : (p : Pattern) (f : Fact) (xs : List Place) (cs : List Cell)
+    → fitInTurn (patternPlaces p f ++ xs) cs ≡ matches p f cs && fitInTurn xs (bindPattern p f cs)
+unfolding matches bindPattern
+matches-places p f xs cs =
+    sym (and-assoc one two (three && rest)) ∙ sym (and-assoc (one && two) three rest)
+  where
+    first : List Cell
+    first = bindSlot (p .subject) (f .subject) cs
+
+    second : List Cell
+    second = bindSlot (p .predicate) (f .predicate) first
+
+    one : Bool
+    one = slotFits (p .subject) (f .subject) cs
+
+    two : Bool
+    two = slotFits (p .predicate) (f .predicate) first
+
+    three : Bool
+    three = slotFits (p .object) (f .object) second
+
+    rest : Bool
+    rest = fitInTurn xs (bindSlot (p .object) (f .object) second)
+
+-- the choices are those of the tuples whose places fit in turn
+choices-tuples : (fs : List Fact) (ps : List Pattern) (cs : List Cell)
+    → choices fs ps cs ≡ map (tupleChoice ps cs) (keepIf (λ us. fitInTurn (places ps us) cs) (tuples fs (length ps)))
+unfolding choices tuples bindPattern
+choices-tuples fs [] cs = refl
+choices-tuples fs (p ∷ ps) cs =
+    concatMap-same (choicesBy fs p ps cs) (λ f. map made (keepIf fit (map (λ us. f ∷ us) later))) fs
+    (λ f. byFact f (choices-tuples fs ps (bindPattern p f cs)))
+    ∙ sym (map-concatMap made (λ f. keepIf fit (map (λ us. f ∷ us) later)) fs)
+    ∙ ap (map made) (sym (keepIf-concatMap fit (λ f. map (λ us. f ∷ us) later) fs))
+  where
+    later : List (List Fact)
+    later = tuples fs (length ps)
+
+    made : List Fact → Choice
+    made us = tupleChoice (p ∷ ps) cs us
+
+    fit : List Fact → Bool
+    fit us = fitInTurn (places (p ∷ ps) us) cs
+
+    byFact : (f : Fact)
+        → choices fs ps (bindPattern p f cs)
+        ≡ map (tupleChoice ps (bindPattern p f cs)) (keepIf (λ us. fitInTurn (places ps us) (bindPattern p f cs)) later)
+        → choicesBy fs p ps cs f ≡ map made (keepIf fit (map (λ us. f ∷ us) later))
+    byFact f e =
+        rw e
+        (ap (onlyIf m) (map-map (withFact f) (tupleChoice ps after) (keepIf test later))
+        ∙ sym (map-onlyIf (λ us. made (f ∷ us)) m (keepIf test later))
+        ∙ ap (map (λ us. made (f ∷ us))) (sym (keepIf-and m test later)
+        ∙ keepIf-cong (λ us. m && test us) (λ us. fit (f ∷ us)) later (every-of (λ us. sym (matches-places p f (places ps us) cs)) later))
+        ∙ sym (map-map made (λ us. f ∷ us) (keepIf (λ us. fit (f ∷ us)) later))
+        ∙ ap (map made) (sym (keepIf-map fit (λ us. f ∷ us) later)))
+      where
+        after : List Cell
+        after = bindPattern p f cs
+
+        m : Bool
+        m = matches p f cs
+
+        test : List Fact → Bool
+        test us = fitInTurn (places ps us) after
+
+-- ---- one variable
+
+-- the terms stand in a cell one after the other
+abbrev follow : Cell → List ℕ → Bool
+follow c [] = true
+follow c (b ∷ bs) = agree c (term b) && follow (term b) bs
+
+-- the cell that they leave
+abbrev last : Cell → List ℕ → Cell
+last c [] = c
+last c (b ∷ bs) = last (term b) bs
+
+follow-term : (a : ℕ) (bs : List ℕ) → follow (term a) bs ≡ allPass (eqb a) bs
+follow-term a [] = refl
+follow-term a (b ∷ bs) = at (eqb a b) refl (follow-term b bs)
+  where
+    at : (t : Bool) → eqb a b ≡ t → follow (term b) bs ≡ allPass (eqb b) bs → t && follow (term b) bs ≡ t && allPass (eqb a) bs
+    at true e h = h ∙ ap (λ (c : ℕ). allPass (eqb c) bs) (sym (eqb-true a b e))
+    at false e h = refl
+
+-- from a free cell on: one term
+follow-free : (bs : List ℕ) → follow free bs ≡ oneTerm bs
+follow-free [] = refl
+follow-free (b ∷ bs) = follow-term b bs
+
+last-term : (a : ℕ) (bs : List ℕ) → allPass (eqb a) bs ≡ true → last (term a) bs ≡ term a
+last-term a [] e = refl
+last-term a (b ∷ bs) e =
+    let same = eqb-true a b (and-left (eqb a b) (allPass (eqb a) bs) e) in
+    rw (← same) (last-term a bs (and-right (eqb a b) (allPass (eqb a) bs) e))
+
+last-free : (bs : List ℕ) → oneTerm bs ≡ true → last free bs ≡ gotten bs
+last-free [] e = refl
+last-free (b ∷ bs) e = last-term b bs e
+
+-- ---- all variables
+
+-- what a term more for the variable w does to the terms of the variable v
+module _ (cs : List Cell) (l : length cs ≡ 16) (w b v : ℕ) (h : v < 16) (bs : List ℕ) where
+  abbrev after : Cell
+  after = cellAt (set cs w (term b)) v
+
+  here : eqb v w ≡ true → after ≡ term b
+  here e =
+      let d = eqb-true v w e in
+      ap (cellAt (set cs w (term b))) d ∙ getD-set-same cs w (term b) free (omega (arith, d))
+
+  there : eqb v w ≡ false → after ≡ cellAt cs v
+  there e = getD-set-other cs w v (term b) free (eqb-false v w e)
+
+  follow-set : follow (cellAt cs v) (onlyIf (eqb v w) (b ∷ []) ++ bs) ≡ (not (eqb v w) || agree (cellAt cs w) (term b)) && follow after bs
+  follow-set = at (eqb v w) refl
+    where
+      at : (t : Bool) → eqb v w ≡ t
+          → follow (cellAt cs v) (onlyIf t (b ∷ []) ++ bs) ≡ (not t || agree (cellAt cs w) (term b)) && follow after bs
+      at true e = rw (here e, eqb-true v w e)
+      at false e = rw (there e)
+
+  last-set : last (cellAt cs v) (onlyIf (eqb v w) (b ∷ []) ++ bs) ≡ last after bs
+  last-set = at (eqb v w) refl
+    where
+      at : (t : Bool) → eqb v w ≡ t → last (cellAt cs v) (onlyIf t (b ∷ []) ++ bs) ≡ last after bs
+      at true e = rw (here e)
+      at false e = rw (there e)
+
+-- the variables are below 16
+pub below16 : Every (λ v. v < 16) variables
+below16 = every-upFrom (λ v. v < 16) 0 16 (λ v h. h)
+
+-- what is asked of the variable w alone; of a variable that no row has, nothing is
+only-agree : (cs : List Cell) (w b : ℕ) → length cs ≡ 16
+    → allPass (λ v. not (eqb v w) || agree (cellAt cs w) (term b)) variables ≡ agree (cellAt cs w) (term b)
+only-agree cs w b l = at (leb w 15) refl
+  where
+    at : (t : Bool) → leb w 15 ≡ t
+        → allPass (λ v. not (eqb v w) || agree (cellAt cs w) (term b)) variables ≡ agree (cellAt cs w) (term b)
+    at true e = allPass-only 0 16 w (agree (cellAt cs w) (term b)) (omega arith) (omega (arith, leb-true w 15 e))
+    at false e =
+        let outside : cellAt cs w ≡ free = List·getD-eq-default cs free (omega (arith, leb-false w 15 e)) in
+        rw outside (allPass-every (λ v. not (eqb v w) || true) variables (every-of (λ v. or-true (not (eqb v w))) variables))
+
+-- every variable's terms follow its cell
+abbrev follows : List Place → List Cell → Bool
+follows xs cs = allPass (λ v. follow (cellAt cs v) (termsFor v xs)) variables
+
+-- places fit in turn where every term stands, and the terms of each variable follow its cell
+fitInTurn-follows : (xs : List Place) (cs : List Cell) → length cs ≡ 16 → fitInTurn xs cs ≡ termsStand xs && follows xs cs
+fitInTurn-follows [] cs l = refl
+fitInTurn-follows (x ∷ xs) cs l = at (x .slot) (x .value) (fitInTurn-follows xs)
+  where
+    at : (s : Slot) (b : ℕ) → ((ds : List Cell) → length ds ≡ 16 → fitInTurn xs ds ≡ termsStand xs && follows xs ds)
+        → slotFits s b cs && fitInTurn xs (bindSlot s b cs)
+        ≡ (termStands s b && termsStand xs)
+        && allPass (λ v. follow (cellAt cs v) (onlyIf (isVariable v s) (b ∷ []) ++ termsFor v xs)) variables
+    at (aTerm a) b later = rw (later cs l) (sym (and-assoc (eqb a b) (termsStand xs) (follows xs cs)))
+    at (aVariable w) b later =
+        rw (later after-cells (length-set cs w (term b) ∙ l))
+        (sym (and-assoc q (termsStand xs) (follows xs after-cells))
+        ∙ ap (λ (t : Bool). t && follows xs after-cells) (and-comm q (termsStand xs))
+        ∙ and-assoc (termsStand xs) q (follows xs after-cells)
+        ∙ ap (λ (t : Bool). termsStand xs && t) (sym asked))
+      where
+        after-cells : List Cell
+        after-cells = set cs w (term b)
+
+        q : Bool
+        q = agree (cellAt cs w) (term b)
+
+        -- what is asked of the variables is what is asked of w, and then of all
+        asked : allPass (λ v. follow (cellAt cs v) (onlyIf (eqb v w) (b ∷ []) ++ termsFor v xs)) variables ≡ q && follows xs after-cells
+        asked =
+            allPass-cong (λ v. follow (cellAt cs v) (onlyIf (eqb v w) (b ∷ []) ++ termsFor v xs))
+            (λ v. (not (eqb v w) || q) && follow (cellAt after-cells v) (termsFor v xs)) variables
+            (every-weaken (λ v h. follow-set cs l w b v h (termsFor v xs)) variables below16)
+            ∙ allPass-and (λ v. not (eqb v w) || q) (λ v. follow (cellAt after-cells v) (termsFor v xs)) variables
+            ∙ ap (λ (t : Bool). t && follows xs after-cells) (only-agree cs w b l)
+
+-- the cells by variable
+pub map-cellAt : (cs : List Cell) → length cs ≡ 16 → cs ≡ map (cellAt cs) variables
+map-cellAt cs l = ext-getD free cs (map (cellAt cs) variables) l (λ v h. sym (getD-map-upFrom (cellAt cs) 0 16 v free (omega arith) ∙ rw (zero-add v)))
+
+-- and leave, for each variable, the last of its terms
+bindInTurn-last : (xs : List Place) (cs : List Cell) → length cs ≡ 16
+    → bindInTurn xs cs ≡ map (λ v. last (cellAt cs v) (termsFor v xs)) variables
+bindInTurn-last [] cs l = map-cellAt cs l
+bindInTurn-last (x ∷ xs) cs l = at (x .slot) (x .value) (bindInTurn-last xs)
+  where
+    at : (s : Slot) (b : ℕ)
+        → ((ds : List Cell) → length ds ≡ 16 → bindInTurn xs ds ≡ map (λ v. last (cellAt ds v) (termsFor v xs)) variables)
+        → bindInTurn xs (bindSlot s b cs)
+        ≡ map (λ v. last (cellAt cs v) (onlyIf (isVariable v s) (b ∷ []) ++ termsFor v xs)) variables
+    at (aTerm a) b later = later cs l
+    at (aVariable w) b later =
+        later (set cs w (term b)) (length-set cs w (term b) ∙ l)
+        ∙ map-cong (λ v. last (cellAt (set cs w (term b)) v) (termsFor v xs))
+        (λ v. last (cellAt cs v) (onlyIf (eqb v w) (b ∷ []) ++ termsFor v xs)) variables
+        (every-weaken (λ v h. sym (last-set cs l w b v h (termsFor v xs))) variables below16)
+
+-- ---- rows
+
+-- places fit in turn, from no cells on, where every variable gets one term
+fitInTurn-fits : (xs : List Place) → fitInTurn xs noCells ≡ fits xs
+fitInTurn-fits xs =
+    fitInTurn-follows xs noCells refl
+    ∙ ap (λ (t : Bool). termsStand xs && t)
+    (allPass-cong (λ v. follow free (termsFor v xs)) (λ v. oneTerm (termsFor v xs)) variables
+    (every-of (λ v. follow-free (termsFor v xs)) variables))
+
+-- and then leave that term
+bindInTurn-placed : (xs : List Place) → fits xs ≡ true → bindInTurn xs noCells ≡ placedCells xs
+bindInTurn-placed xs e =
+    bindInTurn-last xs noCells refl
+    ∙ map-cong (λ v. last free (termsFor v xs)) (λ v. gotten (termsFor v xs)) variables
+    (every-weaken (λ v h. last-free (termsFor v xs) h) variables one)
+  where
+    one : Every (λ v. oneTerm (termsFor v xs) ≡ true) variables
+    one = allPass-passes (λ v. oneTerm (termsFor v xs)) variables (and-right (termsStand xs) _ e)
+
+-- a pattern set lists the rows of the tuples of records under which every variable gets one term, in their order
+pub setRows-tuples : (g : Aggregate) (fs : List Fact) (ps : List Pattern) → setRows g fs ps ≡ tupleRows g fs ps
+unfolding setRows tupleRows
+setRows-tuples g fs ps =
+    ap (map (choiceRow g)) (choices-tuples fs ps noCells)
+    ∙ map-map (choiceRow g) (tupleChoice ps noCells) (keepIf (λ us. fitInTurn (places ps us) noCells) all)
+    ∙ ap (map (λ us. choiceRow g (tupleChoice ps noCells us)))
+    (keepIf-cong _ (λ us. fits (places ps us)) all (every-of (λ us. fitInTurn-fits (places ps us)) all))
+    ∙ map-cong _ (tupleRow g ps) kept (every-weaken at kept (keepIf-passes (λ us. fits (places ps us)) all))
+  where
+    all : List (List Fact)
+    all = tuples fs (length ps)
+
+    kept : List (List Fact)
+    kept = keepIf (λ us. fits (places ps us)) all
+
+    at : (us : List Fact) → fits (places ps us) ≡ true → choiceRow g (tupleChoice ps noCells us) ≡ tupleRow g ps us
+    at us e = λ i. record { cells = bindInTurn-placed (places ps us) e i; trust = g us }
