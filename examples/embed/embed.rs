@@ -8,8 +8,7 @@
 #[path = "../../include/randwyler.rs"]
 mod randwyler;
 
-use randwyler::STACK_EVALUATE_KIB;
-use randwyler::{Evaluated, Tally, ANSWERED, NO_ROOM};
+use randwyler::{Evaluated, Tally, ANSWERED, NO_ROOM, STACK_EVALUATE_KIB};
 use randwyler::{FIRST_TRUST_CELL, MOST_RESULT_BYTES, MOST_ROWS, ROW_WORDS, TRUST_ZERO, UNKNOWN_TRUST, VARIABLES};
 use std::process::ExitCode;
 use std::{env, fs, thread};
