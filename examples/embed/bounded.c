@@ -1,4 +1,4 @@
-/* The engine in a program in C, in one row space whose size is known before: lists how many rows a query and its rewriting have.
+/* The engine in a program in C, in one row space that is known to be enough: prints how many rows a query and its rewriting have.
  * The table and the query are those of examples/.
  */
 #include <inttypes.h>

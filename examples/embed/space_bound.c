@@ -9,10 +9,10 @@ enum { PATTERN_SET = 0, JOIN = 1, LEFT_JOIN = 2, UNION = 3, FILTER = 4, ENSURE_T
 enum { IS_TERM = 2, SAME = 1, LESS = 3, NOT = 4, AND = 5, OR = 6 };
 enum { PATTERN_BYTES = 9, BOUND_BYTES = 3 };
 
-/* A query has at most so many pattern sets, and with one fewer nodes of two operands fills its bytes. */
+/* No query has more pattern sets: each but one needs a node of two operands, and both take a byte at least. */
 enum { MOST_PARTS = RANDWYLER_MOST_QUERY_BYTES / 2 };
 
-/* A node whose bound is known, and which is no operand of such a node. */
+/* A node whose bound is known, until the node that it is an operand of is reached. */
 struct part {
     uint64_t space;
     uint64_t ceiling;
