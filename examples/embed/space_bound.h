@@ -12,9 +12,9 @@
  * SPACE_UNKNOWN.
  *
  * Takes the ceiling of every pattern set, join, left join and union of the query. Each of these calls checks the table and reads all
- * bytes of its node, so that the time grows with the square of the query's length in the worst case: for 465 pattern sets in unions,
- * on as many records as a table may have, 22 seconds were measured. Takes about 72 KB of stack beside that of the calls, at any
- * depth of the query. */
+ * bytes of its node, so that the time grows with the square of the query's length in the worst case: 465 pattern sets in unions, on as
+ * many records as a table may have, took 8 to 10 seconds on a busy machine. Takes about 72 KB of stack beside that of the calls, at
+ * any depth of the query. */
 uint64_t space_bound(const uint8_t *table, size_t table_len, const uint8_t *query, size_t query_len);
 
 #endif

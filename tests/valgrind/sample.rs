@@ -37,7 +37,7 @@ use rows::Seen;
 const CASES: usize = 1_000;
 const MOST_SPACE: usize = 200;
 const MOST_STEPS: u64 = 1_000;
-/// Bytes of an output behind the longest result.
+/// Bytes of the longest output behind the result.
 const BEHIND: usize = 8;
 const TALLY: Tally = Tally { answered: 4, refused: u32::MAX };
 
