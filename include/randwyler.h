@@ -18,34 +18,70 @@
 extern "C" {
 #endif
 
-/* Why a call refuses its inputs, and where. Both are 0 if nothing is refused.
+/* The version of this header. The first number rises where a declared call changes or goes, the second where one comes. */
+#define RANDWYLER_VERSION_MAJOR 1
+#define RANDWYLER_VERSION_MINOR 0
+
+/* Sizes of tables and queries. */
+#define RANDWYLER_RECORD_BYTES 9
+#define RANDWYLER_MOST_RECORDS 65535
+#define RANDWYLER_MOST_QUERY_BYTES 5120         /* of a query to check, to evaluate or to give the ceiling of */
+#define RANDWYLER_MOST_REWRITE_QUERY_BYTES 1024 /* of a query to rewrite */
+#define RANDWYLER_MOST_RESULT_BYTES 5120        /* an output of so many bytes holds every result of a rewriting */
+#define RANDWYLER_MOST_CEILING 4294967295       /* ceilings are cut here */
+
+/* Sizes and words of the row space. */
+#define RANDWYLER_ROW_WORDS 17               /* of a row: a cell for each variable, then the row's trust */
+#define RANDWYLER_VARIABLES 16               /* so the trust is word 16 of a row, the first one being 0 */
+#define RANDWYLER_MOST_ROWS 65535            /* of a capacity */
+#define RANDWYLER_TRUST_ZERO 1000            /* a row's trust is so much plus its thousandths: 0 to 2000 */
+#define RANDWYLER_UNKNOWN_TRUST 2001         /* a row's trust where it is unknown */
+#define RANDWYLER_FIRST_TRUST_CELL 1048576   /* a cell below is a term, or 0 if it is free; one from here on is a trust plus so much */
+#define RANDWYLER_UNKNOWN_TRUST_CELL 1050577 /* a cell with an unknown trust: the sum of the two above */
+
+/* Why a call refuses its inputs, and where. Both are 0 if nothing is refused. The numbers have the names below, with RANDWYLER_ in
+ * front. Later versions may have more: treat a number that you do not know as a refusal.
  *
- *   number  meaning                                                             place
- *   1       the table ends inside a record (a record has 9 bytes)               0
- *   2       the table has over 65,535 records                                   0
- *   3       a record has a term 0, a trust field over 2000, or a trust field    the record, the first one being 0
- *           other than 0 although its trust is unknown
- *   4       a record does not stand above its predecessor                       the record, the first one being 0
- *   5       the query is longer than the call accepts                           0
- *   6       the query is not one well-formed node: it ends early, has an        the byte at which the node, condition or
- *           unknown kind, a bit that must be 0 but is 1, or a value out of      pattern with the fault starts (the query's
- *           range, or bytes follow the node                                     length if it is absent), or the first
- *                                                                               byte behind the node
- *   7       the variable of a project trust is used by a pattern or by a        the byte of the first project trust
- *           second project trust, anywhere in the query                         whose variable is used so
- *   8       the evaluation needs more rows of row space than the capacity       0
- *   9       the output is shorter than the result                               the length needed
+ *   number  name              meaning                                                           place
+ *   1       TABLE_LENGTH      the table ends inside a record (a record has 9 bytes)             0
+ *   2       TOO_MANY_RECORDS  the table has over 65,535 records                                 0
+ *   3       BAD_RECORD        a record has a term 0, a trust field over 2000, or a trust field  the record, the first one being 0
+ *                             other than 0 although its trust is unknown
+ *   4       NOT_RISING        a record does not stand above its predecessor                     the record, the first one being 0
+ *   5       QUERY_TOO_LONG    the query is longer than the call accepts                         0
+ *   6       MALFORMED         the query is not one well-formed node: it ends early, has an      the byte at which the node,
+ *                             unknown kind, a bit that must be 0 but is 1, or a value out of    condition or pattern with the fault
+ *                             range, or bytes follow the node                                   starts (the query's length if it is
+ *                                                                                               absent), or the first byte behind
+ *                                                                                               the node
+ *   7       VARIABLE_CLASH    the variable of a project trust is used by a pattern or by a      the byte of the first project trust
+ *                             second project trust, anywhere in the query                       whose variable is used so
+ *   8       NO_ROOM           the evaluation needs more rows of row space than the capacity     0
+ *   9       OUTPUT_TOO_SHORT  the output is shorter than the result                             the length needed
  *
  * If several apply, the table's come before the query's, and a lower number before a higher one. But the table's records
  * are tested one after the other: a 4 of one record comes before a 3 of a later record.
  */
+#define RANDWYLER_ANSWERED 0 /* nothing is refused */
+#define RANDWYLER_TABLE_LENGTH 1
+#define RANDWYLER_TOO_MANY_RECORDS 2
+#define RANDWYLER_BAD_RECORD 3
+#define RANDWYLER_NOT_RISING 4
+#define RANDWYLER_QUERY_TOO_LONG 5
+#define RANDWYLER_MALFORMED 6
+#define RANDWYLER_VARIABLE_CLASH 7
+#define RANDWYLER_NO_ROOM 8
+#define RANDWYLER_OUTPUT_TOO_SHORT 9
+
 struct randwyler_refusal {
     uint32_t number;
     uint64_t place;
 };
 
-/* KiB of stack that do for a call whatever the bytes of its query, answered or refused; tests/archive/run measures what is
- * needed and holds it to these. */
+/* KiB of stack to give a call, answered or refused: what the deepest queries that were tried need, and a margin. They are chains of
+ * each operator, and of each condition that has operands, as long as the call accepts (25 shapes; for evaluation 21 more, with a
+ * join of many pairs). tests/archive/run measures what they need, and fails if it is more than these. That no other query
+ * needs more is not proved. */
 #define RANDWYLER_STACK_CHECK_KIB 800
 #define RANDWYLER_STACK_REWRITE_KIB 272
 #define RANDWYLER_STACK_CEILING_KIB 800

@@ -1,10 +1,55 @@
 //! Randwyler: the calls for Rust, on slices. Use this file as a module, and link target/staticlib/librandwyler.a (x86-64).
 //!
-//! A name here has the prefix `randwyler_` in include/randwyler.h, which says what each call does. Borrowing already gives what the
-//! header asks of slices: they are lent for the time of the call, and one that is written overlaps no other.
+//! A name here has the prefix `randwyler_` in include/randwyler.h, and a constant `RANDWYLER_`; the header says what each call does.
+//! Borrowing already gives what it asks of slices: they are lent for the time of the call, and one that is written overlaps no other.
 #![allow(dead_code)] // no program has to use all of it
 
-/// KiB of stack that do for a call whatever the bytes of its query; the header's figures.
+// The header's version of these declarations.
+pub const VERSION_MAJOR: u32 = 1;
+pub const VERSION_MINOR: u32 = 0;
+
+// Sizes of tables and queries.
+pub const RECORD_BYTES: usize = 9;
+pub const MOST_RECORDS: usize = 65_535;
+/// Of a query to check, to evaluate or to give the ceiling of.
+pub const MOST_QUERY_BYTES: usize = 5_120;
+/// Of a query to rewrite.
+pub const MOST_REWRITE_QUERY_BYTES: usize = 1_024;
+/// An output of so many bytes holds every result of a rewriting.
+pub const MOST_RESULT_BYTES: usize = 5_120;
+/// Ceilings are cut here.
+pub const MOST_CEILING: u32 = 4_294_967_295;
+
+// Sizes and words of the row space.
+/// Of a row: a cell for each variable, then the row's trust.
+pub const ROW_WORDS: usize = 17;
+/// So the trust is word 16 of a row, the first one being 0.
+pub const VARIABLES: usize = 16;
+/// Of a capacity.
+pub const MOST_ROWS: usize = 65_535;
+/// A row's trust is so much plus its thousandths: 0 to 2000.
+pub const TRUST_ZERO: u32 = 1_000;
+/// A row's trust where it is unknown.
+pub const UNKNOWN_TRUST: u32 = 2_001;
+/// A cell below is a term, or 0 if it is free; one from here on is a trust plus so much.
+pub const FIRST_TRUST_CELL: u32 = 1_048_576;
+/// A cell with an unknown trust: the sum of the two above.
+pub const UNKNOWN_TRUST_CELL: u32 = 1_050_577;
+
+// The numbers of refusals; the header's table says what they mean.
+pub const ANSWERED: u32 = 0;
+pub const TABLE_LENGTH: u32 = 1;
+pub const TOO_MANY_RECORDS: u32 = 2;
+pub const BAD_RECORD: u32 = 3;
+pub const NOT_RISING: u32 = 4;
+pub const QUERY_TOO_LONG: u32 = 5;
+pub const MALFORMED: u32 = 6;
+pub const VARIABLE_CLASH: u32 = 7;
+pub const NO_ROOM: u32 = 8;
+pub const OUTPUT_TOO_SHORT: u32 = 9;
+
+// KiB of stack to give a call: what the deepest queries that were tried need (25 shapes; for evaluation 21 more), and a margin. That no
+// other query needs more is not proved.
 pub const STACK_CHECK_KIB: usize = 800;
 pub const STACK_REWRITE_KIB: usize = 272;
 pub const STACK_CEILING_KIB: usize = 800;

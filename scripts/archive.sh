@@ -5,6 +5,7 @@
 passed=0
 failed=0
 archive= # none is built yet
+objects=() # C objects that Rust test programs are linked with
 
 say() { printf '%s: %s\n' "$name" "$*"; }
 
@@ -70,25 +71,32 @@ build_strikes() {
     [ -x "$strikes" ]
 }
 
-# compile_c OUTPUT SOURCE...: a C program with the archive. A warning is an error.
-compile_c() {
+# compile OUTPUT ARGUMENT...: gcc with these arguments. A warning is an error.
+compile() {
     mkdir -p "$(dirname "$1")"
-    gcc -std=c11 -Wall -Wextra -Wconversion -Werror -O2 -Iinclude "${@:2}" "$archive" -o "$1"
+    gcc -std=c11 -Wall -Wextra -Wconversion -Werror -O2 -Iinclude "${@:2}" -o "$1"
 }
+
+# compile_c OUTPUT SOURCE...: a C program with the archive.
+compile_c() { compile "$@" "$archive"; }
+
+# compile_object OUTPUT SOURCE: an object of a C source, without the archive.
+compile_object() { compile "$1" -c "$2"; }
 
 # compile_display OUTPUT: the C display.
 compile_display() {
     compile_c "$1" display/display.c display/tree.c
 }
 
-# run_program SOURCE [COMMAND...]: compiles a Rust test program, with the archive if `archive` is set, runs it (by a command, if
-# there is one) and adds the counts of its last line. Products stand in target/tests.
+# run_program SOURCE [COMMAND...]: compiles a Rust test program, with `objects`, and with the archive if `archive` is set, runs it (by
+# a command, if there is one) and adds the counts of its last line. Products stand in target/tests.
 run_program() {
-    local source=$1 program
+    local source=$1 program file linked=()
     program=target/tests/$(basename "$source" .rs)
     mkdir -p target/tests
+    for file in "${objects[@]}" ${archive:+"$archive"}; do linked+=(-C "link-arg=$file"); done
     # Modules are shared by the programs, and none has to use all of one.
-    rustc -O --edition 2021 -D warnings -A dead_code ${archive:+-C "link-arg=$archive"} -o "$program" "$source" || {
+    rustc -O --edition 2021 -D warnings -A dead_code "${linked[@]}" -o "$program" "$source" || {
         fail "$source does not compile"
         return
     }

@@ -11,9 +11,6 @@
 #include "randwyler.h"
 
 enum { LISTED = 0, REFUSED = 1, FAILED = 2 };
-enum { RECORD_BYTES = 9, MOST_RECORDS = 65535, MOST_QUERY = 5120, MOST_RESULT = 5120 };
-enum { ROW_WORDS = 17, VARIABLES = 16, MOST_ROWS = 65535, NO_ROOM = 8 };
-enum { TRUST_ZERO = 1000, UNKNOWN_TRUST = 2001, FIRST_TRUST_CELL = 1048576 };
 
 /* Bytes to lend. */
 struct slice {
@@ -25,37 +22,38 @@ struct slice {
 static int print_refusal(uint32_t number, uint64_t place)
 {
     static const char *const advice[] = {
-        [1] = "the table ends inside a record: read it again from its source",
-        [2] = "the table has too many records: choose fewer for it",
-        [3] = "this record has a value out of range: correct it or leave it out",
-        [4] = "this record does not rise: sort the table and leave repetitions out",
-        [5] = "the query is too long for this call: shorten it",
-        [6] = "the query has a fault at this byte: correct its writer",
-        [7] = "the variable of this project trust is used elsewhere: choose another one",
-        [8] = "the query needs more rows than any row space has: narrow it",
-        [9] = "the output is too short: lend so many bytes",
+        [RANDWYLER_TABLE_LENGTH] = "the table ends inside a record: read it again from its source",
+        [RANDWYLER_TOO_MANY_RECORDS] = "the table has too many records: choose fewer for it",
+        [RANDWYLER_BAD_RECORD] = "this record has a value out of range: correct it or leave it out",
+        [RANDWYLER_NOT_RISING] = "this record does not rise: sort the table and leave repetitions out",
+        [RANDWYLER_QUERY_TOO_LONG] = "the query is too long for this call: shorten it",
+        [RANDWYLER_MALFORMED] = "the query has a fault at this byte: correct its writer",
+        [RANDWYLER_VARIABLE_CLASH] = "the variable of this project trust is used elsewhere: choose another one",
+        [RANDWYLER_NO_ROOM] = "the query needs more rows than any row space has: narrow it",
+        [RANDWYLER_OUTPUT_TOO_SHORT] = "the output is too short: lend so many bytes",
     };
-    printf("refused %" PRIu32 " at %" PRIu64 ": %s\n", number, place, number < 10 ? advice[number] : "unknown number");
+    const char *what = number < sizeof advice / sizeof *advice ? advice[number] : "unknown number";
+    printf("refused %" PRIu32 " at %" PRIu64 ": %s\n", number, place, what);
     return REFUSED;
 }
 
-/* A row's trust, or that of a cell less FIRST_TRUST_CELL. */
+/* A row's trust, or that of a cell less RANDWYLER_FIRST_TRUST_CELL. */
 static void print_trust(uint32_t word)
 {
-    if (word == UNKNOWN_TRUST) putchar('?');
-    else printf("%d", (int)word - TRUST_ZERO);
+    if (word == RANDWYLER_UNKNOWN_TRUST) putchar('?');
+    else printf("%d", (int)word - RANDWYLER_TRUST_ZERO);
 }
 
 static void print_row(const uint32_t *row)
 {
-    print_trust(row[VARIABLES]);
-    for (int v = 0; v < VARIABLES; v++) {
+    print_trust(row[RANDWYLER_VARIABLES]);
+    for (int v = 0; v < RANDWYLER_VARIABLES; v++) {
         if (row[v] == 0) continue;
-        if (row[v] < FIRST_TRUST_CELL) {
+        if (row[v] < RANDWYLER_FIRST_TRUST_CELL) {
             printf(" ?%d=%" PRIu32, v, row[v]);
         } else {
             printf(" ?%d=t", v);
-            print_trust(row[v] - FIRST_TRUST_CELL);
+            print_trust(row[v] - RANDWYLER_FIRST_TRUST_CELL);
         }
     }
     putchar('\n');
@@ -65,22 +63,22 @@ static void print_row(const uint32_t *row)
 static int list(struct slice table, struct slice query, size_t rows, struct randwyler_tally *tally)
 {
     for (;;) {
-        uint32_t *space = malloc(rows * ROW_WORDS * sizeof *space);
+        uint32_t *space = malloc(rows * RANDWYLER_ROW_WORDS * sizeof *space);
         if (space == NULL) {
             puts("no memory");
             return FAILED;
         }
         struct randwyler_evaluated answer = randwyler_evaluate(table.bytes, table.length, query.bytes, query.length,
-                                                               space, rows * ROW_WORDS, *tally);
+                                                               space, rows * RANDWYLER_ROW_WORDS, *tally);
         *tally = answer.tally;
-        if (answer.number == 0) {
+        if (answer.number == RANDWYLER_ANSWERED) {
             printf("rows %" PRIu32 " peak %" PRIu32 " pairs %" PRIu64 "\n", answer.rows, answer.peak, answer.pairs);
-            for (uint32_t i = 0; i < answer.rows; i++) print_row(space + ROW_WORDS * i);
+            for (uint32_t i = 0; i < answer.rows; i++) print_row(space + RANDWYLER_ROW_WORDS * i);
         }
         free(space);
-        if (answer.number == 0) return LISTED;
-        if (answer.number != NO_ROOM || rows == MOST_ROWS) return print_refusal(answer.number, answer.place);
-        rows = rows < MOST_ROWS / 2 ? 2 * rows : MOST_ROWS;
+        if (answer.number == RANDWYLER_ANSWERED) return LISTED;
+        if (answer.number != RANDWYLER_NO_ROOM || rows == RANDWYLER_MOST_ROWS) return print_refusal(answer.number, answer.place);
+        rows = rows < RANDWYLER_MOST_ROWS / 2 ? 2 * rows : RANDWYLER_MOST_ROWS;
     }
 }
 
@@ -88,13 +86,13 @@ static int list(struct slice table, struct slice query, size_t rows, struct rand
 static size_t first_rows(uint32_t ceiling)
 {
     if (ceiling == 0) return 1;
-    return ceiling < MOST_ROWS ? ceiling : MOST_ROWS;
+    return ceiling < RANDWYLER_MOST_ROWS ? ceiling : RANDWYLER_MOST_ROWS;
 }
 
 static int run(struct slice table, struct slice query)
 {
     struct randwyler_refusal check = randwyler_check(table.bytes, table.length, query.bytes, query.length);
-    if (check.number != 0) return print_refusal(check.number, check.place);
+    if (check.number != RANDWYLER_ANSWERED) return print_refusal(check.number, check.place);
 
     struct randwyler_ceiling ceiling = randwyler_ceiling_of(table.bytes, table.length, query.bytes, query.length);
     printf("ceiling %" PRIu32 "\n", ceiling.ceiling);
@@ -104,10 +102,10 @@ static int run(struct slice table, struct slice query)
     fputs("query: ", stdout);
     int status = list(table, query, rows, &tally);
 
-    uint8_t output[MOST_RESULT];
+    uint8_t output[RANDWYLER_MOST_RESULT_BYTES];
     struct randwyler_rewritten rewritten = randwyler_rewrite(query.bytes, query.length, output, sizeof output);
     fputs("rewriting: ", stdout);
-    if (rewritten.number == 0) {
+    if (rewritten.number == RANDWYLER_ANSWERED) {
         status = list(table, (struct slice){output, (size_t)rewritten.length}, rows, &tally);
     } else {
         print_refusal(rewritten.number, rewritten.place);
@@ -132,7 +130,7 @@ static int read_file(const char *path, uint8_t *buffer, size_t room, struct slic
 
 int main(int argc, char **argv)
 {
-    static uint8_t facts[(MOST_RECORDS + 1) * RECORD_BYTES], bytes[MOST_QUERY + 1];
+    static uint8_t facts[(RANDWYLER_MOST_RECORDS + 1) * RANDWYLER_RECORD_BYTES], bytes[RANDWYLER_MOST_QUERY_BYTES + 1];
     struct slice table, query;
     if (argc != 3) {
         fputs("usage: embed FACTS QUERY\n", stderr);

@@ -8,7 +8,8 @@
 #[path = "../../include/randwyler.rs"]
 mod randwyler;
 
-use randwyler::{Evaluated, Tally, STACK_EVALUATE_KIB};
+use randwyler::{Evaluated, Tally, ANSWERED, NO_ROOM, STACK_EVALUATE_KIB};
+use randwyler::{FIRST_TRUST_CELL, MOST_RESULT_BYTES, MOST_ROWS, ROW_WORDS, TRUST_ZERO, UNKNOWN_TRUST, VARIABLES};
 use std::process::ExitCode;
 use std::{env, fs, thread};
 
@@ -16,26 +17,18 @@ const LISTED: u8 = 0;
 const REFUSED: u8 = 1;
 const FAILED: u8 = 2;
 
-const MOST_RESULT: usize = 5_120;
-const ROW_WORDS: usize = 17;
-const VARIABLES: usize = 16;
-const MOST_ROWS: usize = 65_535;
-const NO_ROOM: u32 = 8;
-const FIRST_TRUST_CELL: u32 = 1_048_576;
-const UNKNOWN_TRUST: u32 = 2_001;
-
 /// A refusal, and what to do about it.
 fn refusal(number: u32, place: u64) -> String {
     let advice = match number {
-        1 => "the table ends inside a record: read it again from its source",
-        2 => "the table has too many records: choose fewer for it",
-        3 => "this record has a value out of range: correct it or leave it out",
-        4 => "this record does not rise: sort the table and leave repetitions out",
-        5 => "the query is too long for this call: shorten it",
-        6 => "the query has a fault at this byte: correct its writer",
-        7 => "the variable of this project trust is used elsewhere: choose another one",
-        8 => "the query needs more rows than any row space has: narrow it",
-        9 => "the output is too short: lend so many bytes",
+        randwyler::TABLE_LENGTH => "the table ends inside a record: read it again from its source",
+        randwyler::TOO_MANY_RECORDS => "the table has too many records: choose fewer for it",
+        randwyler::BAD_RECORD => "this record has a value out of range: correct it or leave it out",
+        randwyler::NOT_RISING => "this record does not rise: sort the table and leave repetitions out",
+        randwyler::QUERY_TOO_LONG => "the query is too long for this call: shorten it",
+        randwyler::MALFORMED => "the query has a fault at this byte: correct its writer",
+        randwyler::VARIABLE_CLASH => "the variable of this project trust is used elsewhere: choose another one",
+        randwyler::NO_ROOM => "the query needs more rows than any row space has: narrow it",
+        randwyler::OUTPUT_TOO_SHORT => "the output is too short: lend so many bytes",
         _ => "unknown number",
     };
     format!("refused {number} at {place}: {advice}")
@@ -46,7 +39,7 @@ fn trust(word: u32) -> String {
     if word == UNKNOWN_TRUST {
         "?".to_string()
     } else {
-        (word as i32 - 1_000).to_string()
+        (word as i32 - TRUST_ZERO as i32).to_string()
     }
 }
 
@@ -78,7 +71,7 @@ fn evaluate(table: &[u8], query: &[u8], mut rows: usize) -> (Evaluated, Vec<u32>
 
 /// Prints an answer and its rows.
 fn list(what: &str, (answer, space): &(Evaluated, Vec<u32>)) -> u8 {
-    if answer.number != 0 {
+    if answer.number != ANSWERED {
         println!("{what}: {}", refusal(answer.number, answer.place));
         return REFUSED;
     }
@@ -91,7 +84,7 @@ fn list(what: &str, (answer, space): &(Evaluated, Vec<u32>)) -> u8 {
 
 fn run(table: &[u8], query: &[u8]) -> u8 {
     let check = randwyler::check(table, query);
-    if check.number != 0 {
+    if check.number != ANSWERED {
         println!("{}", refusal(check.number, check.place));
         return REFUSED;
     }
@@ -100,7 +93,7 @@ fn run(table: &[u8], query: &[u8]) -> u8 {
     println!("ceiling {ceiling}");
     let rows = (ceiling as usize).clamp(1, MOST_ROWS);
 
-    let mut output = [0; MOST_RESULT];
+    let mut output = [0; MOST_RESULT_BYTES];
     let rewritten = randwyler::rewrite(query, &mut output);
     let result = &output[..rewritten.length as usize];
 
@@ -111,7 +104,7 @@ fn run(table: &[u8], query: &[u8]) -> u8 {
             builder.spawn_scoped(scope, move || evaluate(table, query, rows)).expect("a thread")
         };
         let listing = on_thread(query);
-        let pushed = (rewritten.number == 0).then(|| on_thread(result).join().expect("an answer"));
+        let pushed = (rewritten.number == ANSWERED).then(|| on_thread(result).join().expect("an answer"));
         (listing.join().expect("an answer"), pushed)
     });
 

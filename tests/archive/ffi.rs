@@ -91,7 +91,7 @@ pub fn evaluate_unwritten(table: &[u8], query: &[u8], words: usize, tally: Tally
     let mut space = Vec::with_capacity(words);
     // SAFETY: the space has room for so many words.
     let answer = unsafe { evaluate_at(Some(table), Some(query), (space.as_mut_ptr(), words), tally) };
-    if (1..8).contains(&answer.refusal.number) {
+    if (randwyler::TABLE_LENGTH..randwyler::NO_ROOM).contains(&answer.refusal.number) {
         return (answer, None);
     }
     // SAFETY: an answer, and refusal 8, write every word; valgrind sees it if they do not.

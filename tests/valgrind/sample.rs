@@ -37,6 +37,8 @@ use rows::Seen;
 const CASES: usize = 1_000;
 const MOST_SPACE: usize = 200;
 const MOST_STEPS: u64 = 1_000;
+/// Bytes of the longest output behind the result.
+const BEHIND: usize = 8;
 const TALLY: Tally = Tally { answered: 4, refused: u32::MAX };
 
 /// All calls with one table and one query.
@@ -44,12 +46,17 @@ fn test(report: &mut Report, random: &mut Random, what: &str, table: &[u8], quer
     report.check(what, table, query, paper::check(table, query), ffi::check(table, query));
     report.ceiling(what, table, query, ceilings::ceiling(table, query), ffi::ceiling(table, query));
     let pushed = push::rewriting(query, &mut push::Seen::default());
-    let needed = pushed.as_ref().map_or(1, Vec::len);
-    for room in [needed - 1, needed] {
-        let mut output = vec![0xA5; room];
+    let needed = pushed.as_ref().map_or(query.len() + 1, Vec::len);
+    for room in [needed - 1, needed, needed + BEHIND] {
+        let before = random.noise(room);
+        let mut output = before.clone().into_boxed_slice();
         let (answer, written) = push::answer(&pushed, room);
         report.rewrite(what, query, room, answer, ffi::rewrite(query, &mut output));
-        report.case(output.starts_with(written), || format!("{what}: another rewriting"));
+        // The result at the front, and every other byte as it was. An output of no bytes cannot differ.
+        if room > 0 {
+            let right = output.starts_with(written) && output[written.len()..] == before[written.len()..];
+            report.case(right, || format!("{what}: wrong bytes after rewrite {} {room}", report::hex(query)));
+        }
     }
     let Some(outcome) = rows::evaluate_within(table, query, MOST_SPACE, MOST_STEPS, &mut Seen::default()) else { return };
     let lengths = spaces::lengths(&outcome);
@@ -57,7 +64,10 @@ fn test(report: &mut Report, random: &mut Random, what: &str, table: &[u8], quer
         let (expected, after) = outcome.answer(words, TALLY);
         let (got, space) = ffi::evaluate_unwritten(table, query, words, TALLY);
         report.evaluate(what, (table, query), words, expected, got);
-        report.case(space == after, || format!("{what}: wrong words"));
+        // There is nothing to compare where a refusal leaves the words that nobody wrote, or where there are none.
+        if after.as_ref().is_some_and(|words| !words.is_empty()) {
+            report.case(space == after, || format!("{what}: wrong words"));
+        }
     }
 }
 

@@ -1,0 +1,168 @@
+//! Tests the names of include/randwyler.rs, which tests/embed/run holds to those of the header: the calls give each refusal under its
+//! name, and take and write what the sizes say. The last line is 'N passed, M failed'.
+
+mod chains;
+mod conditions;
+mod limits;
+mod paper;
+mod push;
+mod random;
+#[path = "../../include/randwyler.rs"]
+mod randwyler;
+mod report;
+mod rows;
+mod tables;
+mod vectors;
+
+use randwyler::*;
+use report::Report;
+
+const TALLY: Tally = Tally { answered: 0, refused: 0 };
+
+/// Counts a case about a number that a call gives.
+fn number(report: &mut Report, what: &str, expected: u32, got: u32) {
+    report.case(got == expected, || format!("{what}: the number is {got}, its name says {expected}"));
+}
+
+/// Check, ceiling and evaluation of a table and a query, in enough row space.
+fn all_but_rewrite(report: &mut Report, what: &str, expected: u32, table: &[u8], query: &[u8]) {
+    let mut space = vec![0; MOST_ROWS * ROW_WORDS];
+    number(report, &format!("check, {what}"), expected, check(table, query).number);
+    number(report, &format!("ceiling, {what}"), expected, ceiling_of(table, query).number);
+    number(report, &format!("evaluation, {what}"), expected, evaluate(table, query, &mut space, TALLY).number);
+}
+
+/// An evaluation in a row space of so many words, and what then stands in it.
+fn in_words(table: &[u8], query: &[u8], words: usize) -> (Evaluated, Vec<u32>) {
+    let mut space = vec![7; words];
+    (evaluate(table, query, &mut space, TALLY), space)
+}
+
+/// Every refusal of every call that has it.
+fn refusals(report: &mut Report) {
+    let (w, large) = (tables::w(), tables::large(MOST_RECORDS + 1));
+    let swapped = [&w[9..18], &w[..9]].concat();
+    let long = limits::unions(MOST_QUERY_BYTES + 1);
+    for (what, expected, table, query) in [
+        ("a sound table and query", ANSWERED, &w[..], &[0x00][..]),
+        ("a table that ends inside a record", TABLE_LENGTH, &w[..w.len() - 1], &[0x00]),
+        ("a record too many", TOO_MANY_RECORDS, &large, &[0x00]),
+        ("a record of zeros", BAD_RECORD, &[0; RECORD_BYTES], &[0x00]),
+        ("two records in the other order", NOT_RISING, &swapped, &[0x00]),
+        ("a byte too many", QUERY_TOO_LONG, &w, &long),
+        ("no query", MALFORMED, &w, &[]),
+        ("a variable projected twice", VARIABLE_CLASH, &w, &[0x51, 0x51, 0x00]),
+    ] {
+        all_but_rewrite(report, what, expected, table, query);
+    }
+    let mut output = [0; MOST_RESULT_BYTES];
+    for (what, expected, query, room) in [
+        ("a sound query", ANSWERED, &[0x00][..], 1),
+        ("a byte too many", QUERY_TOO_LONG, &limits::unions(MOST_REWRITE_QUERY_BYTES + 1), MOST_RESULT_BYTES),
+        ("no query", MALFORMED, &[], 1),
+        ("a variable projected twice", VARIABLE_CLASH, &[0x51, 0x51, 0x00], 3),
+        ("no output", OUTPUT_TOO_SHORT, &[0x00], 0),
+    ] {
+        number(report, &format!("rewriting, {what}"), expected, rewrite(query, &mut output[..room]).number);
+    }
+    number(report, "no row space", NO_ROOM, in_words(&w, &[0x00], 0).0.number);
+}
+
+/// What is just taken, and what is refused for one more.
+fn greatest_inputs(report: &mut Report) {
+    let large = tables::large(MOST_RECORDS + 1);
+    let most = &large[..MOST_RECORDS * RECORD_BYTES];
+    all_but_rewrite(report, "the most records", ANSWERED, most, &[0x00]);
+    all_but_rewrite(report, "the longest query", ANSWERED, &[], &limits::unions(MOST_QUERY_BYTES));
+    let mut output = [0; MOST_RESULT_BYTES];
+    let longest = limits::unions(MOST_REWRITE_QUERY_BYTES);
+    number(report, "rewriting, the longest query", ANSWERED, rewrite(&longest, &mut output).number);
+
+    let cut = ceiling_of(most, &vectors::query("03 P P P"));
+    report
+        .case((cut.number, cut.ceiling) == (ANSWERED, MOST_CEILING), || format!("three patterns of every record: {cut:?}"));
+
+    // The last variable, and one behind it.
+    for (variable, expected) in [(VARIABLES - 1, ANSWERED), (VARIABLES, MALFORMED)] {
+        let query = vectors::query(&format!("01 1{variable:05x} 000001 000001"));
+        all_but_rewrite(report, &format!("variable {variable}"), expected, &[], &query);
+    }
+}
+
+fn row_spaces(report: &mut Report) {
+    // The empty set lists one row, without a table too.
+    for (words, expected) in [(ROW_WORDS - 1, NO_ROOM), (ROW_WORDS, ANSWERED)] {
+        number(report, &format!("one row in {words} words"), expected, in_words(&[], &[0x00], words).0.number);
+    }
+    let table = tables::large(MOST_ROWS);
+    for (what, query, words, expected) in [
+        ("the most rows, a word short", "S", MOST_ROWS * ROW_WORDS - 1, NO_ROOM),
+        ("the most rows", "S", MOST_ROWS * ROW_WORDS, ANSWERED),
+        ("a row more, with words for it", "30 S 00", (MOST_ROWS + 1) * ROW_WORDS, NO_ROOM),
+    ] {
+        number(report, what, expected, in_words(&table, &vectors::query(query), words).0.number);
+    }
+}
+
+/// The words of rows, by known trusts and terms.
+fn words(report: &mut Report) {
+    const FREE: u32 = 0;
+    let last_term = 1_048_575;
+    let project = vectors::query(&format!("5f 01 100000 000001 {last_term:06x}"));
+    for (trust, word, cell) in [
+        (Some(-1_000), 0, FIRST_TRUST_CELL),
+        (Some(0), TRUST_ZERO, FIRST_TRUST_CELL + TRUST_ZERO),
+        (Some(1_000), TRUST_ZERO + 1_000, FIRST_TRUST_CELL + TRUST_ZERO + 1_000),
+        (None, UNKNOWN_TRUST, UNKNOWN_TRUST_CELL),
+    ] {
+        let table = tables::fact([last_term, 1, last_term], trust);
+        let (answer, row) = in_words(&table, &project, ROW_WORDS);
+        let mut expected = vec![FREE; VARIABLES];
+        (expected[0], expected[VARIABLES - 1]) = (FIRST_TRUST_CELL - 1, cell);
+        expected.push(word);
+        let right = (answer.number, answer.rows) == (ANSWERED, 1) && row == expected;
+        report.case(right, || format!("trust {trust:?}: the row is {row:?}, and not {expected:?}"));
+    }
+}
+
+/// The same numbers in the independent readings.
+fn readings(report: &mut Report) {
+    for (name, value, read) in [
+        ("RECORD_BYTES", RECORD_BYTES, paper::RECORD_BYTES),
+        ("MOST_RECORDS", MOST_RECORDS, paper::MOST_RECORDS),
+        ("MOST_QUERY_BYTES", MOST_QUERY_BYTES, paper::CHECK_LIMIT),
+        ("MOST_REWRITE_QUERY_BYTES", MOST_REWRITE_QUERY_BYTES, push::REWRITE_LIMIT),
+        ("MOST_RESULT_BYTES", MOST_RESULT_BYTES, push::MOST_RESULT),
+        ("ROW_WORDS", ROW_WORDS, rows::ROW_WORDS),
+        ("VARIABLES", VARIABLES, paper::VARIABLES as usize),
+        ("MOST_ROWS", MOST_ROWS, rows::MOST_ROWS),
+    ] {
+        report.case(value == read, || format!("{name} is {value}, and {read} by document 01"));
+    }
+}
+
+/// How many shapes of query the stack was measured on, as the files say it that give the figures.
+fn shapes(report: &mut Report) {
+    let (all, more) = (chains::all(&[], MOST_QUERY_BYTES).len(), chains::of_many_pairs(MOST_QUERY_BYTES).len());
+    let shapes = format!("{all} shapes; for evaluation {more} more");
+    for (file, text) in [
+        ("include/randwyler.h", include_str!("../../include/randwyler.h")),
+        ("include/randwyler.rs", include_str!("../../include/randwyler.rs")),
+        ("docs/INTEGRATION.md", include_str!("../../docs/INTEGRATION.md")),
+    ] {
+        report.case(text.contains(&shapes), || format!("{file} does not say {shapes}"));
+    }
+}
+
+fn main() {
+    let mut report = Report::default();
+    refusals(&mut report);
+    report.part("refusals");
+    greatest_inputs(&mut report);
+    row_spaces(&mut report);
+    words(&mut report);
+    readings(&mut report);
+    report.part("sizes and words");
+    shapes(&mut report);
+    std::process::exit(report.finish());
+}
