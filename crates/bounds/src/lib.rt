@@ -1,7 +1,7 @@
 // Bounds on trust as a push carries them down: those of a node's operands, and what becomes of what stands before its operands.
 ghost use mathlib.Core.Path.{_≡_};
 ghost use Prim.Native.Nat.{_≤_, max, min};
-ghost use Rattle.tsparql.specs.Push as D;
+ghost use Rattle.tsparql.specs.Push as Push;
 ghost use Rattle.bounds.specs.Bounds.{boundIn, isBound, isBelow, firstBound, secondBound, wrapped, stays, ownSize};
 use heads::Head;
 
@@ -25,7 +25,7 @@ fn greater(a: u32, b: u32) -> u32
 
 // The bound of the operand of ensure trust from m to w.
 fn meet(b: Bound, m: u32, w: u32) -> Bound
-    ensures { λ r. ⌜ boundIn r ≡ D.meet (boundIn b) m w ⌝ }
+    ensures { λ r. ⌜ boundIn r ≡ Push.meet (boundIn b) m w ⌝ }
 {
     match b {
         Bound::Nothing => Bound::Between(m, w),
@@ -35,7 +35,7 @@ fn meet(b: Bound, m: u32, w: u32) -> Bound
 
 // The bound of the operands of a join: as low, and up to 1000.
 fn floor_of(b: Bound) -> Bound
-    ensures { λ r. ⌜ boundIn r ≡ D.trustFloor (boundIn b) ⌝ }
+    ensures { λ r. ⌜ boundIn r ≡ Push.trustFloor (boundIn b) ⌝ }
 {
     match b {
         Bound::Nothing => Bound::Nothing,

@@ -4,7 +4,7 @@ use mathlib.Core.Bool.{cond}
 use Prim.Native.Nat.{ℕ, _+_, _-_, _≤_, _<_, min}
 use lib.Dec.{leb, ltb, eqb}
 use lib.IntN.{ℤ, pos, negsuc}
-use Rattle.tsparql.specs.Values as D
+use Rattle.tsparql.specs.Values as Values
 use Rattle.cells.specs.declared.Trust.{Trust}
 use Rattle.cells.specs.declared.Trust.the-variants.{Known, Unknown}
 use Rattle.cells.specs.declared.Cell.{Cell}
@@ -18,15 +18,15 @@ shift (pos n) = min n 1000 + 1000
 shift (negsuc n) = 999 - n
 
 -- the trust that a value of the code stands for
-abbrev pub trustIn : Trust → D.Trust
-trustIn (Known z) = D.known (shift z)
-trustIn Unknown = D.unknown
+abbrev pub trustIn : Trust → Values.Trust
+trustIn (Known z) = Values.known (shift z)
+trustIn Unknown = Values.unknown
 
 -- the cell that a value of the code stands for
-abbrev pub cellIn : Cell → D.Cell
-cellIn Free = D.free
-cellIn (Term n) = D.term n
-cellIn (Trusted t) = D.trusted (trustIn t)
+abbrev pub cellIn : Cell → Values.Cell
+cellIn Free = Values.free
+cellIn (Term n) = Values.term n
+cellIn (Trusted t) = Values.trusted (trustIn t)
 
 -- a number in the range of trusts, from -1000 to 1000; there `shift` keeps numbers apart
 abbrev pub NumberInRange : ℤ → Type 0
@@ -47,15 +47,15 @@ CellInRange (Trusted t) = InRange t
 -- ---- words
 
 -- the trust of a word: unknown above 2000
-abbrev pub wordTrust : ℕ → D.Trust
-wordTrust w = cond (leb w 2000) (D.known w) D.unknown
+abbrev pub wordTrust : ℕ → Values.Trust
+wordTrust w = cond (leb w 2000) (Values.known w) Values.unknown
 
 -- the cell of a word: 0 free, below 1,048,576 a term, else a trust
-abbrev pub wordCell : ℕ → D.Cell
-wordCell w = cond (eqb w 0) D.free (cond (ltb w 1048576) (D.term w) (D.trusted (wordTrust (w - 1048576))))
+abbrev pub wordCell : ℕ → Values.Cell
+wordCell w = cond (eqb w 0) Values.free (cond (ltb w 1048576) (Values.term w) (Values.trusted (wordTrust (w - 1048576))))
 
 -- a cell that has a word of its own: a term from 1 to 1,048,575, or a trust of at most 1000
-abbrev pub Formed : D.Cell → Type 0
-Formed D.free = Unit {0}
-Formed (D.term a) = (1 ≤ a) × (a < 1048576)
-Formed (D.trusted t) = D.Sound t
+abbrev pub Formed : Values.Cell → Type 0
+Formed Values.free = Unit {0}
+Formed (Values.term a) = (1 ≤ a) × (a < 1048576)
+Formed (Values.trusted t) = Values.Sound t

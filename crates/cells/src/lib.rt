@@ -20,7 +20,7 @@ pub enum Cell {
 }
 
 // The least word of a cell that holds a trust.
-const FIRST_TRUST: u32 = 1048576;
+pub const FIRST_TRUST: u32 = 1048576;
 
 // The trust plus 1000, from 0 to 2000; a number out of range counts as the nearest in range, so that no caller has to show a range.
 fn shifted(t: i16) -> u32

@@ -11,7 +11,7 @@ use lib.Dec.{eqb, leb, ltb}
 use lib.ListN.{length, getD, drop}
 use Rattle.tsparql.specs.Values.{Cell}
 use Rattle.tsparql.specs.Query.{Condition, bound, same, isTerm, less, negation, conjunction, disjunction, always}
-use Rattle.tsparql.specs.Conditions as D
+use Rattle.tsparql.specs.Conditions as Conditions
 use Rattle.tsparql.specs.Conditions.{truthOn}
 use Rattle.tsparql.specs.Reading.{Read, got, fault, andThen, require, kindOf, lowOf, bits24, termSound, conditionStep, readCondition}
 use Rattle.tsparql.specs.Check.{noRefusal}
@@ -144,35 +144,35 @@ pub fault-place : {A : Type 0} {r : Read A} {n p : ℕ} → r ≡ fault p → n 
 fault-place e d = e ∙ ap fault (sym (d ∙ ap faultIn e))
 
 module _ (s : List ℕ) (cs : List Cell) where
-  abbrev T : Condition → D.Truth
+  abbrev T : Condition → Conditions.Truth
   T = truthOn cs
 
   -- the truth found from a place on
-  abbrev pub judgedAt : ℕ → Read D.Truth
+  abbrev pub judgedAt : ℕ → Read Conditions.Truth
   judgedAt at = mapRead T (readCondition (drop at s))
 
-  one-made : (f : Condition → Condition) (g : D.Truth → D.Truth) → ((c : Condition) → T (f c) ≡ g (T c))
-      → (own k : ℕ) (t : D.Truth) → judgedAt own ≡ got t k → mapRead T (oneAt s own f) ≡ got (g t) (own + k)
+  one-made : (f : Condition → Condition) (g : Conditions.Truth → Conditions.Truth) → ((c : Condition) → T (f c) ≡ g (T c))
+      → (own k : ℕ) (t : Conditions.Truth) → judgedAt own ≡ got t k → mapRead T (oneAt s own f) ≡ got (g t) (own + k)
   one-made f g h own k t e =
       made-by T (λ r. mapRead T (andThen own r (λ c next. got (f c) next)) ≡ got (g t) (own + k)) (readCondition (drop own s)) t k e
       (λ c d. rw (h c, d))
 
-  second-made : (f : Condition → Condition → Condition) (own k p : ℕ) (t : D.Truth) → judgedAt own ≡ got t k → judgedAt (own + k) ≡ fault p
-      → twoAt s own f ≡ fault (own + k + p)
+  second-made : (f : Condition → Condition → Condition) (own k p : ℕ) (t : Conditions.Truth) → judgedAt own ≡ got t k
+      → judgedAt (own + k) ≡ fault p → twoAt s own f ≡ fault (own + k + p)
   second-made f own k p t e d =
       made-by T (λ r. andThen own r (λ c at. oneAt s at (f c)) ≡ fault (own + k + p)) (readCondition (drop own s)) t k e
       (λ c _. rw (made-fault T (readCondition (drop (own + k) s)) p d))
 
-  two-made : (f : Condition → Condition → Condition) (g : D.Truth → D.Truth → D.Truth) → ((c d : Condition) → T (f c d) ≡ g (T c) (T d))
-      → (own k m : ℕ) (t u : D.Truth) → judgedAt own ≡ got t k → judgedAt (own + k) ≡ got u m
-      → mapRead T (twoAt s own f) ≡ got (g t u) (own + k + m)
+  two-made : (f : Condition → Condition → Condition) (g : Conditions.Truth → Conditions.Truth → Conditions.Truth)
+      → ((c d : Condition) → T (f c d) ≡ g (T c) (T d)) → (own k m : ℕ) (t u : Conditions.Truth) → judgedAt own ≡ got t k
+      → judgedAt (own + k) ≡ got u m → mapRead T (twoAt s own f) ≡ got (g t u) (own + k + m)
   two-made f g h own k m t u e d =
       made-by T (λ r. mapRead T (andThen own r (λ c at. oneAt s at (f c))) ≡ got (g t u) (own + k + m)) (readCondition (drop own s)) t k e
       (λ c b. one-made (f c) (g t) (λ x. h c x ∙ rw b) (own + k) m u d)
 
   module _ (own : ℕ) where
     -- no operand
-    pub none-judged : (h : ConditionHead) (t u : D.Truth) → conditionHeadRead s ≡ got h own → conditionOperands h ≡ 0
+    pub none-judged : (h : ConditionHead) (t u : Conditions.Truth) → conditionHeadRead s ≡ got h own → conditionOperands h ≡ 0
         → mapRead T (readCondition s) ≡ got (headTruth cs h t u) own
     unfolding truthOn
     none-judged (C.Bound v) t u e z = rw (tree-at s e)
@@ -197,20 +197,20 @@ module _ (s : List ℕ) (cs : List Cell) where
     first-fault C.True p e n f = absurd (omega arith)
 
     -- one operand
-    pub one-judged : (h : ConditionHead) (k : ℕ) (t u : D.Truth) → conditionHeadRead s ≡ got h own → conditionOperands h ≡ 1
+    pub one-judged : (h : ConditionHead) (k : ℕ) (t u : Conditions.Truth) → conditionHeadRead s ≡ got h own → conditionOperands h ≡ 1
         → judgedAt own ≡ got t k → mapRead T (readCondition s) ≡ got (headTruth cs h t u) (own + k)
     unfolding truthOn
     one-judged (C.Bound v) k t u e n f = absurd (omega arith)
     one-judged (C.Same v w) k t u e n f = absurd (omega arith)
     one-judged (C.IsTerm v a) k t u e n f = absurd (omega arith)
     one-judged (C.Less v w) k t u e n f = absurd (omega arith)
-    one-judged C.Not k t u e n f = rw (tree-at s e) (one-made negation D.notTruth (λ c. refl) own k t f)
+    one-judged C.Not k t u e n f = rw (tree-at s e) (one-made negation Conditions.notTruth (λ c. refl) own k t f)
     one-judged C.And k t u e n f = absurd (omega arith)
     one-judged C.Or k t u e n f = absurd (omega arith)
     one-judged C.True k t u e n f = absurd (omega arith)
 
     -- a fault of the second operand
-    pub second-fault : (h : ConditionHead) (k p : ℕ) (t : D.Truth) → conditionHeadRead s ≡ got h own → 2 ≤ conditionOperands h
+    pub second-fault : (h : ConditionHead) (k p : ℕ) (t : Conditions.Truth) → conditionHeadRead s ≡ got h own → 2 ≤ conditionOperands h
         → judgedAt own ≡ got t k → judgedAt (own + k) ≡ fault p → readCondition s ≡ fault (own + k + p)
     second-fault (C.Bound v) k p t e n f g = absurd (omega arith)
     second-fault (C.Same v w) k p t e n f g = absurd (omega arith)
@@ -222,7 +222,7 @@ module _ (s : List ℕ) (cs : List Cell) where
     second-fault C.True k p t e n f g = absurd (omega arith)
 
     -- two operands
-    pub two-judged : (h : ConditionHead) (k m : ℕ) (t u : D.Truth) → conditionHeadRead s ≡ got h own → 2 ≤ conditionOperands h
+    pub two-judged : (h : ConditionHead) (k m : ℕ) (t u : Conditions.Truth) → conditionHeadRead s ≡ got h own → 2 ≤ conditionOperands h
         → judgedAt own ≡ got t k → judgedAt (own + k) ≡ got u m → mapRead T (readCondition s) ≡ got (headTruth cs h t u) (own + k + m)
     unfolding truthOn
     two-judged (C.Bound v) k m t u e n f g = absurd (omega arith)
@@ -230,13 +230,14 @@ module _ (s : List ℕ) (cs : List Cell) where
     two-judged (C.IsTerm v a) k m t u e n f g = absurd (omega arith)
     two-judged (C.Less v w) k m t u e n f g = absurd (omega arith)
     two-judged C.Not k m t u e n f g = absurd (omega arith)
-    two-judged C.And k m t u e n f g = rw (tree-at s e) (two-made conjunction D.andTruth (λ c d. refl) own k m t u f g)
-    two-judged C.Or k m t u e n f g = rw (tree-at s e) (two-made disjunction D.orTruth (λ c d. refl) own k m t u f g)
+    two-judged C.And k m t u e n f g = rw (tree-at s e) (two-made conjunction Conditions.andTruth (λ c d. refl) own k m t u f g)
+    two-judged C.Or k m t u e n f g = rw (tree-at s e) (two-made disjunction Conditions.orTruth (λ c d. refl) own k m t u f g)
     two-judged C.True k m t u e n f g = absurd (omega arith)
 
   -- ---- the answer
 
-  pub judges-truth : (t : Truth) (u : D.Truth) (n : ℕ) → truthIn t ≡ u → mapRead T (readCondition s) ≡ got u n → Judges s cs (J.Truth t n)
+  pub judges-truth : (t : Truth) (u : Conditions.Truth) (n : ℕ) → truthIn t ≡ u → mapRead T (readCondition s) ≡ got u n
+      → Judges s cs (J.Truth t n)
   judges-truth t u n e d =
       record {
         found = rw e (sym d);

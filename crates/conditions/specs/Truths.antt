@@ -6,7 +6,7 @@ use mathlib.Core.List.{List}
 use Prim.Native.Nat.{ℕ}
 use Rattle.tsparql.specs.Values.{Cell, term, cellAt}
 use Rattle.tsparql.specs.Query.{Condition, always}
-use Rattle.tsparql.specs.Conditions as D
+use Rattle.tsparql.specs.Conditions as Conditions
 use Rattle.tsparql.specs.Conditions.{notTruth, andTruth, orTruth, boundTruth, sameTruth, lessTruth, truthOn}
 use Rattle.tsparql.specs.Reading.{Read, got, fault, readCondition}
 use Rattle.tsparql.specs.WellFormed.{VariableFormed}
@@ -22,10 +22,10 @@ use Rattle.conditions.specs.declared.Judged.{Judged}
 use Rattle.conditions.specs.declared.Judged.the-variants as J
 
 -- the truth that a value of the code stands for
-abbrev pub truthIn : Truth → D.Truth
-truthIn T.True = D.holds
-truthIn T.False = D.fails
-truthIn T.Error = D.errs
+abbrev pub truthIn : Truth → Conditions.Truth
+truthIn T.True = Conditions.holds
+truthIn T.False = Conditions.fails
+truthIn T.Error = Conditions.errs
 
 -- ---- conditions of a query
 
@@ -56,7 +56,7 @@ HeadFormed C.Or = Unit {0}
 HeadFormed C.True = Unit {0}
 
 -- the truth of a condition on a row's cells, by its head and its operands' truths; those that a head has not do not matter
-abbrev pub headTruth : List Cell → ConditionHead → D.Truth → D.Truth → D.Truth
+abbrev pub headTruth : List Cell → ConditionHead → Conditions.Truth → Conditions.Truth → Conditions.Truth
 headTruth cs (C.Bound v) t u = boundTruth (cellAt cs v)
 headTruth cs (C.Same v w) t u = sameTruth (cellAt cs v) (cellAt cs w)
 headTruth cs (C.IsTerm v a) t u = sameTruth (cellAt cs v) (term a)
@@ -64,12 +64,12 @@ headTruth cs (C.Less v w) t u = lessTruth (cellAt cs v) (cellAt cs w)
 headTruth cs C.Not t u = notTruth t
 headTruth cs C.And t u = andTruth t u
 headTruth cs C.Or t u = orTruth t u
-headTruth cs C.True t u = D.holds
+headTruth cs C.True t u = Conditions.holds
 
 -- ---- the answer
 
 -- the truth and the next place, or the place of the fault
-abbrev pub judgedFound : Judged → Read D.Truth
+abbrev pub judgedFound : Judged → Read Conditions.Truth
 judgedFound (J.Truth t n) = got (truthIn t) n
 judgedFound (J.Refused n p) = fault p
 

@@ -10,11 +10,7 @@ use borrow.Author.Tests.{le-leb, lt-leb}
 use borrow.Rule.Slice.PartMut.{putMid, postOf, post-is}
 use lib.ListN.{length, take, drop, length-append, length-drop}
 use lib.Seq.{sets, sets-eq, take-at, drop-at, drop-drop, drop-length}
-use Rattle.tsparql.specs.Writing.{patternBytes}
-use Rattle.tsparql.specs.Reading.{slotSound}
-use Rattle.tsparql.proofs.WrittenRead.{slotOf-sound}
-use Rattle.slots.specs.declared.Pattern.{Pattern}
-use Rattle.encoding.specs.Writers.{slotsBytes, soundPatternBytes, Wrote, WroteIfFits}
+use Rattle.encoding.specs.Writers.{Wrote, WroteIfFits}
 use Rattle.query.proofs.ReadLaws.{part-drop}
 
 -- bytes stored one by one from the front
@@ -52,13 +48,6 @@ right-false a b e = rw e (and-false a)
 
 pub left-false : (a b : Bool) → a ≡ false → a && b ≡ false
 left-false a b e = rw e
-
--- a pattern whose slots are sound is written as their numbers
-pub pattern-slots : (p : Pattern) → slotSound (p .subject) ≡ true → slotSound (p .predicate) ≡ true → slotSound (p .object) ≡ true
-    → soundPatternBytes p ≡ slotsBytes p
-unfolding patternBytes
-pattern-slots p d e f =
-    rw (d, e, f, slotOf-sound (p .subject) d .1, slotOf-sound (p .predicate) e .1, slotOf-sound (p .object) f .1)
 
 -- ---- one behind the other
 

@@ -8,6 +8,9 @@ ghost use Rattle.heads.specs.Parts.{boundsHead, plainHead, nodeHeadRead,
 use slots::bits_at;
 use slots::term_sound;
 
+// The number of the refusal of a query that has a fault.
+pub const FAULT: u32 = 6;
+
 // A condition without its operands.
 pub enum ConditionHead {
     Bound(u8),

@@ -9,6 +9,7 @@ use borrow.Author.Tests.{eqb-true}
 use Rattle.tsparql.specs.Check.{refuse, Passes, check}
 use Rattle.tsparql.specs.Table.{wholeTable}
 use Rattle.tsparql.specs.Calls.{ceilingRefused, ceilingAnswered, ceilingOver, ceilingCall}
+use Rattle.tsparql.proofs.QueryLaws.{check-parts}
 use Rattle.table.specs.Answers as T
 use Rattle.table.specs.declared.View.{View}
 use Rattle.table.specs.declared.TableAnswer.the-variants as TA
@@ -18,6 +19,7 @@ use Rattle.ceiling.specs.Answers.{CeilingIs}
 use Rattle.ceiling.specs.declared.CeilingRead.the-variants as CR
 use Rattle.ceiling.proofs.CheckedLaws.{checked-answered}
 use Rattle.patterns.specs.Matching.{viewOf}
+use Rattle.patterns.specs.Sets.{Seen}
 use Rattle.randwyler.specs.declared.CheckAnswer.the-variants.{Sound, Refused}
 use Rattle.randwyler.specs.Answers.{Checked, Ready}
 
@@ -57,8 +59,11 @@ module _ (t s : List ℕ) (v : View) (h : Checked t s (Sound v)) where
   pub view-whole : viewOf v ≡ wholeTable t
   view-whole = rw (sym (h .sound)) at (h .view)
 
-  pub view-inside : 9 * v .records ≤ length t
+  view-inside : 9 * v .records ≤ length t
   view-inside = let e : v .records ≡ length t / 9 = ap (λ w. w .records) view-whole in omega arith
+
+  pub view-seen : Seen (viewOf v) t
+  view-seen = record { passed = check-parts t s passed .0; inside = view-inside }
 
   pub checked-ready : Ready (viewOf v) t s
   checked-ready = record { passed = passed; seen = view-whole }

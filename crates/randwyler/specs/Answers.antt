@@ -4,14 +4,14 @@ use mathlib.Core.Bool.{Bool, true, false, cond}
 use mathlib.Core.List.{List}
 use Prim.Native.Nat.{ℕ}
 use lib.ListN.{length}
-use Rattle.tsparql.specs.Table as T
+use Rattle.tsparql.specs.Table as Table
 use Rattle.tsparql.specs.Table.{wholeTable, factsIn}
-use Rattle.tsparql.specs.Check as D
+use Rattle.tsparql.specs.Check as Check
 use Rattle.tsparql.specs.Check.{refuse, noRefusal, Passes, passes, check}
-use Rattle.tsparql.specs.Rewrite as W
-use Rattle.tsparql.specs.Calls as C
+use Rattle.tsparql.specs.Rewrite as Rewrite
+use Rattle.tsparql.specs.Calls as Calls
 use Rattle.tsparql.specs.Calls.{raiseOne, tallied}
-use Rattle.tsparql.specs.Evaluate as E
+use Rattle.tsparql.specs.Evaluate as Evaluate
 use Rattle.tsparql.specs.Evaluate.{refusedWith, answer}
 use Rattle.tsparql.specs.PatternSets.{least}
 use Rattle.tsparql.specs.Reading.{queryNode}
@@ -30,11 +30,11 @@ abbrev pub soundIn : CheckAnswer → Bool
 soundIn (Sound v) = true
 soundIn (Refused n p) = false
 
-abbrev pub checkedIn : CheckAnswer → D.Refusal
+abbrev pub checkedIn : CheckAnswer → Check.Refusal
 checkedIn (Sound v) = noRefusal
 checkedIn (Refused n p) = refuse n p
 
-abbrev pub viewIn : CheckAnswer → T.View
+abbrev pub viewIn : CheckAnswer → Table.View
 viewIn (Sound v) = record { records = v .records }
 viewIn (Refused n p) = noRecords
 
@@ -47,24 +47,24 @@ pub record Checked (t s : List ℕ) (r : CheckAnswer) : Type 0 where
 -- ---- the calls
 
 -- number and place of an answer
-abbrev pub refusalIn : Refusal → D.Refusal
+abbrev pub refusalIn : Refusal → Check.Refusal
 refusalIn r = refuse (r .number) (r .place)
 
 -- number, place and length of an answer, and the output at the end
-abbrev pub rewrittenIn : Rewritten → List ℕ → W.Rewritten
+abbrev pub rewrittenIn : Rewritten → List ℕ → Rewrite.Rewritten
 rewrittenIn r out = record { refusal = refuse (r .number) (r .place); size = r .length; output = out }
 
 -- number, place and ceiling of an answer
-abbrev pub ceilingIn : Ceiling → C.CeilingAnswer
+abbrev pub ceilingIn : Ceiling → Calls.CeilingAnswer
 ceilingIn r = record { refusal = refuse (r .number) (r .place); ceiling = r .ceiling }
 
 -- ---- evaluation
 
-abbrev pub tallyIn : Tally → C.Tally
+abbrev pub tallyIn : Tally → Calls.Tally
 tallyIn a = record { answered = a .answered; refused = a .refused }
 
 -- refusal and counts of an answer, with the row space at the end, and the tally
-abbrev pub evaluatedIn : Evaluated → List ℕ → C.EvaluateAnswer
+abbrev pub evaluatedIn : Evaluated → List ℕ → Calls.EvaluateAnswer
 evaluatedIn r ws =
     record {
       evaluated =
@@ -73,17 +73,17 @@ evaluatedIn r ws =
     }
 
 -- a refusal with all counts 0, counted as refused; the row space is whatever it is
-abbrev pub RefusedWith : ℕ → ℕ → C.Tally → Evaluated → Type 0
+abbrev pub RefusedWith : ℕ → ℕ → Calls.Tally → Evaluated → Type 0
 RefusedWith n p a r =
     (ws : List ℕ) → evaluatedIn r ws ≡ record { evaluated = refusedWith (refuse n p) ws; tally = raiseOne false a }
 
 -- a table and a query that passed the check
-pub record Ready (v : T.View) (t s : List ℕ) : Type 0 where
+pub record Ready (v : Table.View) (t s : List ℕ) : Type 0 where
   pub passed : Passes (check t s)
   pub seen : v ≡ wholeTable t
 
 -- the answer to a checked query, counted by its refusal
-abbrev pub Answered : T.View → List ℕ → List ℕ → C.Tally → List ℕ → List ℕ → Evaluated → Type 0
+abbrev pub Answered : Table.View → List ℕ → List ℕ → Calls.Tally → List ℕ → List ℕ → Evaluated → Type 0
 Answered v t s a ws out r =
-    let e : E.Evaluated = answer least (factsIn v t) (queryNode s) (length ws) in
+    let e : Evaluate.Evaluated = answer least (factsIn v t) (queryNode s) (length ws) in
     evaluatedIn r out ≡ record { evaluated = e; tally = tallied a (e .refusal) }

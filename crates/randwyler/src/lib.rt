@@ -1,7 +1,7 @@
 // The calls for C. Their names and layouts are in include/randwyler.h.
 ghost use mathlib.Core.Path.{_≡_};
 ghost use Rattle.tsparql.specs.Check.{refuse, check};
-ghost use Rattle.tsparql.specs.Rewrite as D;
+ghost use Rattle.tsparql.specs.Rewrite as Rewrite;
 ghost use mathlib.Core.Bool.{true, false};
 ghost use Rattle.tsparql.specs.Calls.{ceilingCall, ceilingRefused, raised, raiseOne, evaluate};
 ghost use Rattle.patterns.specs.Matching.{viewOf};
@@ -82,7 +82,7 @@ pub struct Rewritten {
 // The rewriting of a query into a lent output: refusals 5 to 7 and 9. Past the result, and on a refusal, the output is unchanged.
 #[no_mangle]
 pub extern "C" fn randwyler_rewrite(query: &[u8], output: &mut [u8]) -> Rewritten
-    ensures { λ r. ⌜ rewrittenIn r (now (output .exit)) ≡ D.rewrite (now (query .entry)) (now (output .entry)) ⌝ }
+    ensures { λ r. ⌜ rewrittenIn r (now (output .exit)) ≡ Rewrite.rewrite (now (query .entry)) (now (output .entry)) ⌝ }
 {
     match rewrite(query, output) {
         RewriteAnswer::Written(length) => Rewritten {

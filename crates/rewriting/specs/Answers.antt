@@ -7,7 +7,7 @@ use Rattle.tsparql.specs.Push.{TrustBound, push, BoundFormed}
 use Rattle.tsparql.specs.Writing.{nodeBytes}
 use Rattle.tsparql.specs.Reading.{Read, got, fault}
 use Rattle.tsparql.specs.Check.{noRefusal, refuse}
-use Rattle.tsparql.specs.Rewrite as D
+use Rattle.tsparql.specs.Rewrite as Rewrite
 use Rattle.tsparql.specs.Rewrite.{rewriteLimit, wroteNothing}
 use Rattle.query.specs.Found.{NodeSound, nodeOf}
 use Rattle.encoding.specs.Writers.{Wrote}
@@ -48,7 +48,7 @@ pub record Pushes (s : List ℕ) (b : TrustBound) (out out′ : List ℕ) (r : P
 -- ---- the answer of the call
 
 -- refusal, length and output at the end
-abbrev pub rewrittenIn : RewriteAnswer → List ℕ → D.Rewritten
+abbrev pub rewrittenIn : RewriteAnswer → List ℕ → Rewrite.Rewritten
 rewrittenIn (R.Written n) out = record { refusal = noRefusal; size = n; output = out }
 rewrittenIn (R.Refused n p) out = wroteNothing (refuse n p) out
 

@@ -5,8 +5,9 @@ ghost use Prim.Native.Nat.{_+_, _^_, _≤_, _<_};
 ghost use lib.ListN.{length, take};
 ghost use Rattle.tsparql.specs.Push.{push, BoundFormed};
 ghost use Rattle.tsparql.specs.Reading.{got};
-ghost use Rattle.tsparql.specs.Rewrite as W;
+ghost use Rattle.tsparql.specs.Rewrite as Rewrite;
 ghost use Rattle.tsparql.specs.Writing.{nodeSize};
+ghost use Rattle.heads.specs.Answers.{nodeFound, faultIn};
 ghost use Rattle.query.specs.Found.{NodeSound, nodeOf};
 ghost use Rattle.encoding.specs.Writers.{Wrote};
 ghost use Rattle.bounds.specs.Bounds.{boundIn, wrapBytes, ownPush, ownSize};
@@ -19,6 +20,7 @@ use bounds::stays_put;
 use bounds::wraps;
 use bytes::copy;
 use encoding::write_head;
+use heads::FAULT;
 use heads::Head;
 use heads::NodeRead;
 use heads::node_fault;
@@ -42,6 +44,16 @@ pub enum RewriteAnswer {
 // The most bytes of a query that is rewritten.
 const REWRITE_LIMIT: usize = 1024;
 
+// The refusal of a node that does not read.
+fn fault_refused(h: NodeRead) -> Pushed
+    ensures { λ r. ⌜ r ≡ Pushed.Refused 6 (faultIn (nodeFound h)) ⌝ }
+{
+    Pushed::Refused {
+        number: FAULT,
+        place: node_fault(h),
+    }
+}
+
 // A refusal at a place counted from k bytes before.
 fn refused_at(k: usize, p: Pushed) -> Pushed
     requires { ⌜ k + placeIn p < 2 ^ 64 ⌝ }
@@ -63,10 +75,7 @@ fn push_size(q: &[u8], b: Bound) -> Pushed
 {
     let h = read_own(q);
     let NodeRead::Node(head, k) = h else {
-        return Pushed::Refused {
-            number: 6,
-            place: node_fault(h),
-        };
+        return fault_refused(h);
     };
     let own = own_size(head, b, k);
     let n = node_operands(head);
@@ -121,10 +130,7 @@ fn push_node(q: &[u8], b: Bound, out: &mut [u8]) -> Pushed
 {
     let h = read_own(q);
     let NodeRead::Node(head, k) = h else {
-        return Pushed::Refused {
-            number: 6,
-            place: node_fault(h),
-        };
+        return fault_refused(h);
     };
     let own = write_own(q, head, b, k, out);
     let n = node_operands(head);
@@ -159,7 +165,7 @@ fn answer_of(p: Pushed) -> RewriteAnswer
 
 // The rewriting of a query: refusals 5 to 7, then 9 where the output is too short; else the push at the front of the output.
 pub fn rewrite(q: &[u8], out: &mut [u8]) -> RewriteAnswer
-    ensures { λ r. ⌜ rewrittenIn r (now (out .exit)) ≡ W.rewrite (now (q .entry)) (now (out .entry)) ⌝ }
+    ensures { λ r. ⌜ rewrittenIn r (now (out .exit)) ≡ Rewrite.rewrite (now (q .entry)) (now (out .entry)) ⌝ }
 {
     if let QueryAnswer::Refused { number, place } = check_query(q, REWRITE_LIMIT) {
         return RewriteAnswer::Refused { number, place };

@@ -7,6 +7,7 @@ ghost use Rattle.tsparql.specs.Check.{slotVariables, variablesOf, variablesRefu
 ghost use Rattle.slots.specs.Answers.{patternIn};
 ghost use Rattle.query.specs.Found.{PatternsSound, NodeSound, nodeOf, QuerySound};
 ghost use Rattle.scope.specs.Variables.{has, patternsOf, ownUses, projectedIn, clashesWith, clashAt, clashIn, Checked};
+use heads::FAULT;
 use heads::Head;
 use heads::NodeRead;
 use heads::node_fault;
@@ -14,11 +15,10 @@ use heads::read_head;
 use query::Place;
 use query::next_node;
 use query::read_node;
+use slots::FIRST_VARIABLE;
+use slots::PATTERN_BYTES;
 use slots::Pattern;
 use slots::pattern_at;
-
-// The bytes of a pattern.
-const PATTERN_BYTES: usize = 9;
 
 // A clash of variables, at a project trust node.
 pub enum Clash {
@@ -36,10 +36,10 @@ pub enum QueryAnswer {
 fn slot_has(x: u32, v: u8) -> bool
     ensures { λ r. ⌜ r ≡ has v (slotVariables (slotOf x)) ⌝ }
 {
-    if x < 1048576 {
+    if x < FIRST_VARIABLE {
         false
     } else {
-        let w = x - 1048576;
+        let w = x - FIRST_VARIABLE;
         w == v as u32
     }
 }
@@ -176,7 +176,7 @@ pub fn check_query(q: &[u8], limit: usize) -> QueryAnswer
     let r = read_node(q);
     let NodeRead::Node(_, next) = r else {
         return QueryAnswer::Refused {
-            number: 6,
+            number: FAULT,
             place: node_fault(r),
         };
     };
@@ -191,7 +191,7 @@ pub fn check_query(q: &[u8], limit: usize) -> QueryAnswer
         }
     } else {
         QueryAnswer::Refused {
-            number: 6,
+            number: FAULT,
             place: next,
         }
     }

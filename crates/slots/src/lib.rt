@@ -5,6 +5,11 @@ ghost use lib.ListN.{length};
 ghost use Rattle.tsparql.specs.Reading.{bits24, termSound, slotSound, readPattern};
 ghost use Rattle.slots.specs.Answers.{slotsAt, slotsSound, patternFound};
 
+// A slot below this number is a term, any other a variable.
+pub const FIRST_VARIABLE: u32 = 1048576;
+// The bytes of a pattern.
+pub const PATTERN_BYTES: usize = 9;
+
 // A pattern by its slots' 24 bits: below 1,048,576 a term, else 1,048,576 and a variable.
 pub struct Pattern {
     pub subject: u32,
@@ -39,7 +44,7 @@ pub fn bits_at(q: &[u8], at: usize) -> u32
 pub fn term_sound(x: u32) -> bool
     ensures { λ r. ⌜ r ≡ termSound x ⌝ }
 {
-    if 0 < x { x < 1048576 } else { false }
+    if 0 < x { x < FIRST_VARIABLE } else { false }
 }
 
 // The number is a slot's: a term, or a variable.
@@ -49,7 +54,11 @@ pub fn slot_sound(x: u32) -> bool
     if term_sound(x) {
         return true;
     }
-    if 1048576 <= x { x < 1048592 } else { false }
+    if FIRST_VARIABLE <= x {
+        x < 1048592
+    } else {
+        false
+    }
 }
 
 // The pattern of a part's first 9 bytes, whatever they hold.
@@ -83,12 +92,12 @@ fn pattern_sound(p: Pattern) -> bool
 pub fn read_pattern(q: &[u8]) -> PatternRead
     ensures { λ r. ⌜ patternFound r ≡ readPattern (now (q .entry)) ⌝ }
 {
-    if q.len() < 9 {
+    if q.len() < PATTERN_BYTES {
         return PatternRead::Fault(0);
     }
     let p = pattern_at(q);
     if pattern_sound(p) {
-        PatternRead::Found(p, 9)
+        PatternRead::Found(p, PATTERN_BYTES)
     } else {
         PatternRead::Fault(0)
     }

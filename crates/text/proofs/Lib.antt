@@ -7,3 +7,5 @@ pub mod WordText
 pub mod RowText
 -- How long texts are
 pub mod TextSize
+-- A text worked out by hand
+pub mod Cases

@@ -10,10 +10,8 @@ ghost use Rattle.tsparql.specs.Strikes.{decimal, trustText, valueText, cellText
 ghost use Rattle.cells.specs.Words.{wordTrust, wordCell};
 ghost use Rattle.rows.specs.RowWords.{rowIn, rowsIn};
 ghost use Rattle.text.specs.Writing.{Puts, cellsText, counted};
+use cells::FIRST_TRUST;
 use rows::row_at;
-
-// The least word of a cell that holds a trust.
-const FIRST_TRUST: u32 = 1048576;
 
 // ---- bytes and numbers
 

@@ -1,8 +1,8 @@
 -- The worked cases of document 01 and some more, as one table about the definitions with one proof, by computation.
 -- An entry has what the definitions give on its left and what document 01 says on its right, worked out by hand (texts go through
--- `ascii`, and one printout stands in numbers). Groups: cases 1 to 9; rows, order and trust, solutions; push; conditions; ceilings and tallies;
--- refusals and their places. Inputs are in hexadecimal. Printouts are computed by a form of `strikes` that works nothing out twice.
--- Assumes nothing.
+-- `ascii`, and one printout stands in numbers). Groups: cases 1 to 9; rows, order, trust and solutions; push; conditions; ceilings and
+-- tallies; refusals and their places. Inputs are in hexadecimal. Printouts are computed by a form of `strikes` that works nothing
+-- out twice. Assumes nothing.
 use mathlib.Core.Path.{_≡_, refl, ap, _∙_}
 use mathlib.Core.Bool.{Bool, true, false, not, cond}
 use mathlib.Core.List.{List, [], _∷_, _++_, map, map-congr-left}
@@ -455,15 +455,19 @@ unfolding nibble nibbles inPairs hex W twoRecords lowAndHigh negative A B C none
 inputs = tt
 
 entries : Unit {0}
-unfolding evaluated checked ceilings rewritten fields tallies triple tupleLines setAB solutions noRows bothRows worked reported quick expected
+unfolding evaluated checked ceilings rewritten fields tallies noRows bothRows worked reported quick expected
 entries = tt
+
+sets : Unit {0}
+unfolding triple tupleLines setAB solutions tuples tupleRows
+sets = tt
 
 groups : Unit {0}
 unfolding paperCases moreCases pushCases conditionCases figureCases refusalCases cases
 groups = tt
 
 rows : Unit {0}
-unfolding compatible mergeCells truthOn trueOn blocksOn stands rowsOf spaceOf pairsOf bindPattern matches choices least setRows tuples tupleRows
+unfolding compatible mergeCells truthOn trueOn blocksOn stands rowsOf spaceOf pairsOf bindPattern matches choices least setRows
 rows = tt
 
 tables : Unit {0}
@@ -492,7 +496,7 @@ text = tt
 
 -- every entry gives what it should
 quick-hold : map quick cases ≡ map expected cases
-unfolding inputs entries groups rows tables writers readers calls figures text
+unfolding inputs entries sets groups rows tables writers readers calls figures text
 quick-hold = refl
 
 pub cases-hold : map computed cases ≡ map expected cases

@@ -1,5 +1,5 @@
--- Laws of the functions on lists (specs/Lists.antt): tests; what holds of every element; allPass, anyPass; keepIf, consIf and onlyIf; map and
--- concatMap.
+-- Laws of the functions on lists (specs/Lists.antt): tests; what holds of every element; allPass and anyPass; keepIf, consIf and onlyIf;
+-- map and concatMap.
 -- Laws of length, take, drop, set and the like are the library's (lib.ListN, lib.Seq).
 -- Assumes nothing.
 use mathlib.Core.Path.{_≡_, refl, sym, ap, _∙_}

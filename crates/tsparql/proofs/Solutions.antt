@@ -329,7 +329,8 @@ tuples-says fs cs r (p ∷ ps) =
         → keepIf test (map (λ us. f ∷ us) later) ≡ onlyIf (becomes cs p f) (onlyIf all ((f ∷ rest) ∷ []))
     byFact f e =
         keepIf-map test (λ us. f ∷ us) later
-        ∙ ap (map (λ us. f ∷ us)) (keepIf-cong _ (λ us. becomes cs p f && allPass (says cs) (places ps us)) later (every-of (onFirst f) later)
+        ∙ ap (map (λ us. f ∷ us))
+        (keepIf-cong _ (λ us. becomes cs p f && allPass (says cs) (places ps us)) later (every-of (onFirst f) later)
         ∙ keepIf-and (becomes cs p f) (λ us. allPass (says cs) (places ps us)) later
         ∙ ap (onlyIf (becomes cs p f)) e)
         ∙ map-onlyIf (λ us. f ∷ us) (becomes cs p f) (onlyIf all (rest ∷ []))
@@ -365,8 +366,8 @@ length-one true false true p x = refl
 length-one true false false p x = refl
 
 -- over facts whose triples rise, a pattern set lists every solution once, and nothing else
-pub cardinality-set : (g : Aggregate) (fs : List Fact) → Rising key fs → (ps : List Pattern) → Every (λ v. v < 16) (concatMap variablesOf ps)
-    → (r : Row) → cardinality (setRows g fs ps) r ≡ setCardinality g fs ps r
+pub cardinality-set : (g : Aggregate) (fs : List Fact) → Rising key fs → (ps : List Pattern)
+    → Every (λ v. v < 16) (concatMap variablesOf ps) → (r : Row) → cardinality (setRows g fs ps) r ≡ setCardinality g fs ps r
 unfolding tupleRows
 cardinality-set g fs k ps h r =
     ap (λ (xs : List Row). cardinality xs r) (setRows-tuples g fs ps)

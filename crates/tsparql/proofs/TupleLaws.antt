@@ -20,7 +20,8 @@ use Rattle.tsparql.specs.PatternSets.{Aggregate, choiceRow, setRows}
 use Rattle.tsparql.specs.Tuples.{tuples, Place, patternPlaces, places, termStands, termsStand, isVariable, termsFor}
 use Rattle.tsparql.specs.Tuples.{oneTerm, fits, gotten, placedCells, tupleRow, tupleRows}
 use Rattle.tsparql.proofs.ListLaws.{and-left, and-right, every-of, every-weaken, every-upFrom}
-use Rattle.tsparql.proofs.ListLaws.{allPass-every, allPass-passes, allPass-cong, allPass-and, allPass-only, keepIf-passes, keepIf-cong, keepIf-and, map-onlyIf, keepIf-map}
+use Rattle.tsparql.proofs.ListLaws.{allPass-every, allPass-passes, allPass-cong, allPass-and, allPass-only}
+use Rattle.tsparql.proofs.ListLaws.{keepIf-passes, keepIf-cong, keepIf-and, map-onlyIf, keepIf-map}
 use Rattle.tsparql.proofs.ListLaws.{keepIf-concatMap, map-concatMap, concatMap-same, map-cong, getD-map-upFrom}
 use Rattle.tsparql.proofs.ChoiceLaws.{choicesBy}
 
@@ -226,7 +227,9 @@ fitInTurn-follows (x ∷ xs) cs l = at (x .slot) (x .value) (fitInTurn-follows x
 
 -- the cells by variable
 pub map-cellAt : (cs : List Cell) → length cs ≡ 16 → cs ≡ map (cellAt cs) variables
-map-cellAt cs l = ext-getD free cs (map (cellAt cs) variables) l (λ v h. sym (getD-map-upFrom (cellAt cs) 0 16 v free (omega arith) ∙ rw (zero-add v)))
+map-cellAt cs l =
+    ext-getD free cs (map (cellAt cs) variables) l
+    (λ v h. sym (getD-map-upFrom (cellAt cs) 0 16 v free (omega arith) ∙ rw (zero-add v)))
 
 -- and leave, for each variable, the last of its terms
 bindInTurn-last : (xs : List Place) (cs : List Cell) → length cs ≡ 16

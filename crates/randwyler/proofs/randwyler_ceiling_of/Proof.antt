@@ -1,7 +1,7 @@
 -- By the answer of the check of both, and the ceiling of the node. Assumes nothing.
 use mathlib.Core.Path.{_∙_}
 use borrow.Author.Needs.{needs}
-use Rattle.randwyler.proofs.Checks.{ceiling-refuses, view-inside, ceiling-answers, ceiling-sound}
+use Rattle.randwyler.proofs.Checks.{ceiling-refuses, view-seen, ceiling-answers, ceiling-sound}
 use Rattle.randwyler.proofs.randwyler_ceiling_of.Statement.{statement}
 use Rattle.randwyler.proofs.randwyler_ceiling_of.Tie as tie
 
@@ -20,7 +20,7 @@ enum-known-c-2 c = search needs
 ceiling-node-requires : tie.Need-ceiling-node-requires
 ceiling-node-requires c κs =
     let a = c .before .before .before .before .before .before .args in
-    view-inside (a .table .now) (a .query .now) _ (rw (c .before .c2 .given .1) at (c .before .before .before .check-both .ensures))
+    view-seen (a .table .now) (a .query .now) _ (rw (c .before .c2 .given .1) at (c .before .before .before .check-both .ensures))
 
 enum-known-number : tie.Need-enum-known-number
 enum-known-number c = search needs

@@ -19,7 +19,7 @@ use Rattle.query.specs.Found.{nodeOf}
 use Rattle.encoding.specs.Writers.{Wrote}
 use Rattle.query.proofs.Operands.{Own, TwoOperands, own-found, own-sound, no-operand, one-operand, first-sound, second-operand}
 use Rattle.encoding.proofs.WriterLaws.{wrote-long}
-use Rattle.heads.proofs.node_fault.Reads as node-fault-reads
+use Rattle.rewriting.proofs.fault_refused.Reads as fault-refused-reads
 use Rattle.heads.proofs.node_operands.Reads as node-operands-reads
 use Rattle.query.proofs.read_own.Reads as read-own-reads
 use Rattle.rewriting.specs.declared.Pushed.the-variants as P
@@ -52,8 +52,8 @@ abbrev push-node-calls : ℕ → push-node-lts.Claims
 push-node-calls t = (
   read-own-reads.Asked,
   read-own-reads.Learnt,
-  node-fault-reads.Asked,
-  node-fault-reads.Learnt,
+  fault-refused-reads.Asked,
+  fault-refused-reads.Learnt,
   write-own-reads.Asked,
   write-own-reads.Learnt,
   node-operands-reads.Asked,
@@ -353,8 +353,8 @@ push-node-enum-known-h t c = search needs
 push-node-enum-told : (t : ℕ) → push-node-lts.Need-enum-told (push-node-calls t) (push-node-at t) push-node.Post
 push-node-enum-told t c = search needs
 
-push-node-node-fault-requires : (t : ℕ) → push-node-lts.Need-node-fault-requires (push-node-calls t) (push-node-at t) push-node.Post
-push-node-node-fault-requires t c κs = search needs
+push-node-fault-refused-requires : (t : ℕ) → push-node-lts.Need-fault-refused-requires (push-node-calls t) (push-node-at t) push-node.Post
+push-node-fault-refused-requires t c κs = search needs
 
 push-node-returns : (t : ℕ) → push-node-lts.Need-returns (push-node-calls t) (push-node-at t) push-node.Post
 push-node-returns t c =
@@ -515,14 +515,14 @@ push-node-same-length-4 t c = absurd (second-never t (c .before .before .before 
 push-node-returns-5 : (t : ℕ) → push-node-lts.Need-returns-5 (push-node-calls t) (push-node-at t) push-node.Post
 push-node-returns-5 t c = absurd (second-never t (c .before .before .before .before .before) (c .before .enum-told3 .given .1))
 
-push-node-add-t27 : (t : ℕ) → push-node-lts.Need-add-t27 (push-node-calls t) (push-node-at t) push-node.Post
-push-node-add-t27 t c =
+push-node-add-t26 : (t : ℕ) → push-node-lts.Need-add-t26 (push-node-calls t) (push-node-at t) push-node.Post
+push-node-add-t26 t c =
     let z = second-at t c in
     let p = second-read t c in
     omega (arith, z .wrote .size, z .total, push-inside (own-at t p) (b-at t p), pre-at t p .short)
 
-push-node-add-t22 : (t : ℕ) → push-node-lts.Need-add-t22 (push-node-calls t) (push-node-at t) push-node.Post
-push-node-add-t22 t c =
+push-node-add-t21 : (t : ℕ) → push-node-lts.Need-add-t21 (push-node-calls t) (push-node-at t) push-node.Post
+push-node-add-t21 t c =
     let z = second-at t c in
     let p = second-read t c in
     omega (arith, z .place, own-at t p .size-inside, pre-at t p .short)
@@ -546,7 +546,7 @@ pub +push-node-spec : {M : Type 1} → statement M
     (push-node-read-own-requires t)
     (push-node-enum-known-h t)
     (push-node-enum-told t)
-    (push-node-node-fault-requires t)
+    (push-node-fault-refused-requires t)
     (push-node-returns t)
     (push-node-write-own-requires t)
     (push-node-node-operands-requires t)
@@ -582,7 +582,7 @@ pub +push-node-spec : {M : Type 1} → statement M
     (push-node-refused-at-requires-2 t)
     (push-node-same-length-4 t)
     (push-node-returns-5 t)
-    (push-node-add-t27 t)
-    (push-node-add-t22 t)
+    (push-node-add-t26 t)
+    (push-node-add-t21 t)
     (push-node-same-length-5 t)
     (push-node-returns-6 t)

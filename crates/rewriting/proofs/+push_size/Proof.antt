@@ -15,7 +15,7 @@ use Rattle.heads.specs.Answers.{nodeFound}
 use Rattle.heads.specs.Parts.{nodeOperands}
 use Rattle.query.specs.Found.{NodeSound, nodeOf}
 use Rattle.query.proofs.Operands.{Own, TwoOperands, own-found, own-sound, no-operand, one-operand, first-sound, second-operand}
-use Rattle.heads.proofs.node_fault.Reads as node-fault-reads
+use Rattle.rewriting.proofs.fault_refused.Reads as fault-refused-reads
 use Rattle.heads.proofs.node_operands.Reads as node-operands-reads
 use Rattle.query.proofs.read_own.Reads as read-own-reads
 use Rattle.rewriting.specs.declared.Pushed.the-variants as P
@@ -46,8 +46,8 @@ abbrev push-size-calls : ℕ → push-size-lts.Claims
 push-size-calls t = (
   read-own-reads.Asked,
   read-own-reads.Learnt,
-  node-fault-reads.Asked,
-  node-fault-reads.Learnt,
+  fault-refused-reads.Asked,
+  fault-refused-reads.Learnt,
   own-size-reads.Asked,
   own-size-reads.Learnt,
   node-operands-reads.Asked,
@@ -271,8 +271,8 @@ push-size-enum-known-h t c = search needs
 push-size-enum-told : (t : ℕ) → push-size-lts.Need-enum-told (push-size-calls t) (push-size-at t) push-size.Post
 push-size-enum-told t c = search needs
 
-push-size-node-fault-requires : (t : ℕ) → push-size-lts.Need-node-fault-requires (push-size-calls t) (push-size-at t) push-size.Post
-push-size-node-fault-requires t c κs = search needs
+push-size-fault-refused-requires : (t : ℕ) → push-size-lts.Need-fault-refused-requires (push-size-calls t) (push-size-at t) push-size.Post
+push-size-fault-refused-requires t c κs = search needs
 
 push-size-returns : (t : ℕ) → push-size-lts.Need-returns (push-size-calls t) (push-size-at t) push-size.Post
 push-size-returns t c =
@@ -330,8 +330,8 @@ push-size-add-at : (t : ℕ) → push-size-lts.Need-add-at (push-size-calls t) (
 push-size-add-at t c =
     let f = first-at t c in omega (arith, f .next-is, f .inside .0, pre-at t (first-read t c) .1)
 
-push-size-add-t22 : (t : ℕ) → push-size-lts.Need-add-t22 (push-size-calls t) (push-size-at t) push-size.Post
-push-size-add-t22 t c = omega (arith, first-end-small t (c .before))
+push-size-add-t21 : (t : ℕ) → push-size-lts.Need-add-t21 (push-size-calls t) (push-size-at t) push-size.Post
+push-size-add-t21 t c = omega (arith, first-end-small t (c .before))
 
 push-size-returns-4 : (t : ℕ) → push-size-lts.Need-returns-4 (push-size-calls t) (push-size-at t) push-size.Post
 push-size-returns-4 t c =
@@ -379,17 +379,17 @@ push-size-refused-at-requires-2 t c κs = absurd (second-never t (c .before .bef
 push-size-returns-5 : (t : ℕ) → push-size-lts.Need-returns-5 (push-size-calls t) (push-size-at t) push-size.Post
 push-size-returns-5 t c = absurd (second-never t (c .before .before .before) (c .before .enum-told3 .given .1))
 
-push-size-add-t18 : (t : ℕ) → push-size-lts.Need-add-t18 (push-size-calls t) (push-size-at t) push-size.Post
-push-size-add-t18 t c = omega (arith, first-end-small t (second-first t c))
+push-size-add-t17 : (t : ℕ) → push-size-lts.Need-add-t17 (push-size-calls t) (push-size-at t) push-size.Post
+push-size-add-t17 t c = omega (arith, first-end-small t (second-first t c))
 
-push-size-add-t26 : (t : ℕ) → push-size-lts.Need-add-t26 (push-size-calls t) (push-size-at t) push-size.Post
-push-size-add-t26 t c =
+push-size-add-t25 : (t : ℕ) → push-size-lts.Need-add-t25 (push-size-calls t) (push-size-at t) push-size.Post
+push-size-add-t25 t c =
     let z = second-at t c in
     let p = second-read t c in
     omega (arith, z .total, push-inside (own-at t p) (b-at t p), pre-at t p .1)
 
-push-size-add-t27 : (t : ℕ) → push-size-lts.Need-add-t27 (push-size-calls t) (push-size-at t) push-size.Post
-push-size-add-t27 t c =
+push-size-add-t26 : (t : ℕ) → push-size-lts.Need-add-t26 (push-size-calls t) (push-size-at t) push-size.Post
+push-size-add-t26 t c =
     let z = second-at t c in
     let p = second-read t c in
     omega (arith, z .place, own-at t p .size-inside, pre-at t p .1)
@@ -404,7 +404,7 @@ pub +push-size-spec : {M : Type 1} → statement M
     (push-size-read-own-requires t)
     (push-size-enum-known-h t)
     (push-size-enum-told t)
-    (push-size-node-fault-requires t)
+    (push-size-fault-refused-requires t)
     (push-size-returns t)
     (push-size-own-size-requires t)
     (push-size-node-operands-requires t)
@@ -419,7 +419,7 @@ pub +push-size-spec : {M : Type 1} → statement M
     (push-size-refused-at-requires t)
     (push-size-returns-3 t)
     (push-size-add-at t)
-    (push-size-add-t22 t)
+    (push-size-add-t21 t)
     (push-size-returns-4 t)
     (push-size-sub-push-size-2 t)
     (push-size-part-push-size-start-2 t)
@@ -430,7 +430,7 @@ pub +push-size-spec : {M : Type 1} → statement M
     (push-size-enum-told-3 t)
     (push-size-refused-at-requires-2 t)
     (push-size-returns-5 t)
-    (push-size-add-t18 t)
+    (push-size-add-t17 t)
+    (push-size-add-t25 t)
     (push-size-add-t26 t)
-    (push-size-add-t27 t)
     (push-size-returns-6 t)
