@@ -59,7 +59,8 @@ expect 0 "$rows" "$runs/examples" ./strikes
 expect 0 "$rows" "$runs/$files/sound" ./strikes "$files/sound"
 expect 0 "$rows" "$runs/$files/a folder" ./strikes "$files/a folder/"
 expect 0 "$rows" "$runs/$files/a folder" env -C "$files/a folder" "$script" .
-expect 0 "$rows" "$runs/$files/a folder" env -C "$files" CDPATH=/ "$script" 'a folder'
+mkdir -p "$files/other/sound"
+expect 0 "$rows" "$runs/$files/sound" env -C "$files" CDPATH="$PWD/$files/other" "$script" sound
 expect 0 "$rows" "$runs/examples" env -C "$files" "$script"
 expect 0 'rows 1 peak 1 pairs 0
 1000' "$runs/$files/none" ./strikes "$files/none"
@@ -107,6 +108,8 @@ strikes: query.bin is a folder, and counts as empty
 $no_query" ./strikes "$files/folders"
 expect 0 "$no_rows" "$runs/$files/links
 strikes: facts.bin is not there, and counts as empty" ./strikes "$files/links"
+ln -sf /dev/null "$files/links/facts.bin"
+expect 0 "$no_rows" "$runs/$files/links" ./strikes "$files/links"
 # Rights do not keep root from reading.
 folder locked "$w" "$q"
 chmod 000 "$files/locked/facts.bin"
@@ -151,6 +154,8 @@ strikes: refused: this number is not known" ./strikes
 stand_in 'echo rows; echo refused 1 at 0'
 expect 0 'rows
 refused 1 at 0' "$runs" ./strikes
+stand_in 'echo " refused 1 at 0 "'
+expect 0 ' refused 1 at 0 ' "$runs" ./strikes
 stand_in 'exit 7'
 expect 7 '' "$runs" ./strikes
 stand_in 'printf "rows\n\n\n"'
