@@ -8,7 +8,7 @@
  * file cannot be read, the output cannot be written, there is no memory, or the usage is wrong; 3 the two do not agree as it is
  * proved that they do.
  */
-#define _POSIX_C_SOURCE 200809L
+#define _POSIX_C_SOURCE 200809L /* open_memstream */
 #include <inttypes.h>
 #include <stdio.h>
 #include <stdlib.h>
