@@ -11,8 +11,9 @@
 
 #include <stddef.h>
 #include <stdint.h>
+#include <stdio.h>
 
 /* For bytes that a call accepted. Of other bytes none behind the end is read either: zeros stand in their place. */
-void print_tree(const uint8_t *query, size_t length);
+void print_tree(FILE *out, const uint8_t *query, size_t length);
 
 #endif

@@ -25,6 +25,10 @@ finish() {
 # prove COMMAND CRATE: rt with this command, which proves a crate and all that it needs first, counted.
 prove() {
     local count
+    command -v rt >/dev/null || {
+        say "the Rattle kit's command rt is not in PATH: see README.md, \"Run it\", and docs/DECISIONS.md, \"Toolchain\""
+        return 1
+    }
     count=$(awk -F': *' -v names="$2" '{ needs[$1] = $2 }
         END {
             queued = split(names, queue, " ")
@@ -50,7 +54,7 @@ build_archive() {
         say "building $archive"
         prove staticlib randwyler || return 1
     fi
-    [ -f "$archive" ]
+    [ -f "$archive" ] || { say "there is no archive $archive"; return 1; }
 }
 
 # The same for a test, which fails if there is no archive.
@@ -68,7 +72,7 @@ build_strikes() {
         say "building $strikes"
         prove check strikes || return 1
     fi
-    [ -x "$strikes" ]
+    [ -f "$strikes" ] && [ -x "$strikes" ] || { say "there is no program $strikes"; return 1; }
 }
 
 # compile OUTPUT ARGUMENT...: gcc with these arguments. A warning is an error.
@@ -83,9 +87,12 @@ compile_c() { compile "$@" "$archive"; }
 # compile_object OUTPUT SOURCE: an object of a C source, without the archive.
 compile_object() { compile "$1" -c "$2"; }
 
-# compile_display OUTPUT: the C display.
+# compile_display OUTPUT, compile_compare OUTPUT: the C display; the program that evaluates a query beside its rewriting.
 compile_display() {
-    compile_c "$1" display/display.c display/tree.c
+    compile_c "$1" display/{display,files,refusal,tree}.c
+}
+compile_compare() {
+    compile_c "$1" display/{compare,files,refusal,row,tree}.c
 }
 
 # run_program SOURCE [COMMAND...]: compiles a Rust test program, with `objects`, and with the archive if `archive` is set, runs it (by

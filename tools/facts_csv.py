@@ -1,9 +1,11 @@
 """Records as CSV (docs/FORMATS.md, Facts as CSV)."""
 from record_layout import MOST_RECORDS, RANGES, Record
-from source import Faulty, Place, fault, lines_of, number
+from source import Faulty, Place, fault, lines_of, number, shown
 
 HEADER = ",".join(Record._fields)
 BLANKS = " \t"
+# What other programs put between fields where we have commas.
+OTHER_SEPARATORS = {";": "semicolons", "\t": "tabs", "|": "vertical bars"}
 
 
 def fields_of(line, text):
@@ -19,12 +21,17 @@ def fields_of(line, text):
     return fields
 
 
-def check_header(fields):
+def check_header(fields, text):
     words = [word for _, word in fields]
     if words == list(Record._fields):
         return
     differs = [place for (place, word), name in zip(fields, Record._fields) if word != name]
-    raise fault((differs or [fields[-1][0]])[0], f"the first line has to be {HEADER}")
+    text = text.strip(BLANKS)
+    message = f"the first line has to be {HEADER}, and is {shown(text)}"
+    others = [plural for separator, plural in OTHER_SEPARATORS.items() if separator in text]
+    if others and "," not in text:
+        message += f": its fields are separated by {others[0]}, not commas"
+    raise fault((differs or [fields[-1][0]])[0], message)
 
 
 def record_of(fields):
@@ -57,7 +64,7 @@ def read_csv(data):
             continue
         fields = fields_of(line, text)
         if not has_header:
-            check_header(fields)
+            check_header(fields, text)
             has_header = True
             continue
         try:
@@ -72,7 +79,7 @@ def read_csv(data):
         except Faulty as faulty:
             faults += faulty.faults
     if not has_header:
-        raise fault(Place(line, 1), f"the first line has to be {HEADER}")
+        raise fault(Place(line, 1), f"the first line has to be {HEADER}, and there is none")
     if faults:
         raise Faulty(*faults)
     return [records[key][1] for key in sorted(records)]

@@ -22,7 +22,7 @@ int main(void)
         for (size_t j = 0; j < length; j++) {
             bytes[j] = rand() % 8 == 0 ? (uint8_t)rand() : heads[(size_t)rand() % sizeof heads];
         }
-        print_tree(bytes, length);
+        print_tree(stdout, bytes, length);
     }
     return 0;
 }

@@ -1,6 +1,8 @@
-"""campaign.py DISPLAY STRIKES: the campaign's facts and rows are those of its scripts, and `strikes` prints the rows for each question,
-from files that the tools make; its README quotes them. The last line is 'N passed, M failed'."""
+"""campaign.py DISPLAY COMPARE STRIKES: the campaign's facts and rows are those of its scripts; for each question `strikes` prints the
+rows, from files that the tools make, and the comparison finds them equal; its README quotes them. The last line is 'N passed, M
+failed'."""
 import csv
+import os
 import pathlib
 import re
 import sys
@@ -35,7 +37,7 @@ def make_query(report, folder, text):
     report.equal(f"tools/query {source}", run(TOP / "tools" / "query", source, folder / "query.bin", input=data)[0::2], (0, ""))
 
 
-def answered(report, folder, display, strikes):
+def answered(report, folder, display, compare, strikes):
     table = folder / "facts.bin"
     report.equal("tools/facts", run(TOP / "tools" / "facts", CAMPAIGN / "facts.csv", table)[0::2], (0, ""))
     report.equal("facts.bin is short enough", 0 < table.stat().st_size <= MOST_FACTS, True)
@@ -46,10 +48,15 @@ def answered(report, folder, display, strikes):
         expected = rows_file(name)
         report.equal(f"strikes on {name}", run(strikes, cwd=folder), (0, expected, ""))
         report.equal(f"{name} has rows", 2 <= len(expected.splitlines()) <= 1 + MOST_ROWS, True)
+        counts, *rows = expected.splitlines()
+        status, shown_both, _ = run(compare, table, folder / "query.bin")
+        above, title, below = shown_both.partition("the rows are equal, in the same order:\n")
+        report.equal(f"comparison of {name}", (status, title != "", below.splitlines()), (0, True, rows))
+        report.equal(f"counts in the comparison of {name}", above.splitlines()[-1].startswith(counts + "  "), True)
         # The rewriting, copied from the display, lists the same.
         make_query(report, folder, re.split(r"(?m)^rewriting, \d+ bytes:\n", shown)[1])
         rewritten = run(strikes, cwd=folder)[1]
-        report.equal(f"strikes on the rewriting of {name}", rewritten.splitlines()[1:], expected.splitlines()[1:])
+        report.equal(f"strikes on the rewriting of {name}", rewritten.splitlines()[1:], rows)
 
 
 def all_facts(report, folder, strikes):
@@ -69,15 +76,16 @@ def naive_push(report):
     report.equal("rows that it adds", (len(surplus), surplus[0]), (12, "660 ?0=1002 ?1=3010"))
 
 
-def quoted(report, folder, strikes):
-    """The README's commands, its rows and their numbers."""
+def quoted(report, strikes):
+    """The README's commands, run as they stand there, its rows and their numbers."""
     text = (CAMPAIGN / "README.md").read_text()
-    first, *commands = re.findall("(?m)^    (.*)$", text)
-    report.equal("the README's folder", (first, commands.pop()), ("cd target", "bin/strikes"))
-    script = "\n".join(commands).replace("../", f"{TOP}/") + f"\n{strikes}"
-    status, said, messages = run("bash", "-e", "-c", script, cwd=folder)
-    report.equal("the README's commands", (status, messages), (0, ""))
-    report.equal("what they print", said.endswith("bytes\n" + rows_file("2-unsampled")), True)
+    commands = re.findall("(?m)^    (.*)$", text)
+    report.equal("the README's last command", commands[-1], "./strikes target/campaign")
+    environment = {**os.environ, "RANDWYLER_STRIKES": str(strikes)}
+    status, said, messages = run("bash", "-euc", "\n".join(commands), cwd=TOP, env=environment)
+    report.equal("the README's commands", status, 0)
+    report.equal("what strikes says", messages.splitlines()[-1], f"strikes: running on facts.bin and query.bin of {TOP}/target/campaign")
+    report.equal("what they print", said.endswith(" bytes\n" + rows_file("2-unsampled")), True)
     sections = re.split(r"(?m)^### \d\. .*\(`(.*)`\)$", text)[1:]
     names, bodies = sections[0::2], sections[1::2]
     report.equal("sections of the README", names, [name for name in QUESTIONS if name != "5-late-naive"])
@@ -91,13 +99,14 @@ def quoted(report, folder, strikes):
 
 
 def main():
-    display, strikes, report = pathlib.Path(sys.argv[1]).resolve(), pathlib.Path(sys.argv[2]).resolve(), Report()
+    display, compare, strikes = (pathlib.Path(word).resolve() for word in sys.argv[1:])
+    report = Report()
     with tempfile.TemporaryDirectory() as name:
         folder = pathlib.Path(name)
         made_again(report, folder)
-        answered(report, folder, display, strikes)
+        answered(report, folder, display, compare, strikes)
         all_facts(report, folder, strikes)
-        quoted(report, folder, strikes)
+    quoted(report, strikes)
     naive_push(report)
     report.finish()
 

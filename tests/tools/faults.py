@@ -9,15 +9,31 @@ from report import TOP, Report, run
 HEADER = "subject,predicate,object,trust\n"
 SIXTEEN = "".join(f"  ?0 1 {n}\n" for n in range(1, 17))
 BELOW = "  empty pattern set\n"
+NO_HEADER = "the first line has to be subject,predicate,object,trust"
+
+
+def separated_by(plural):
+    return f"its fields are separated by {plural}, not commas"
+
 
 CSV = [  # text, messages without the file's name
-    ("", ["1:1: the first line has to be subject,predicate,object,trust"]),
-    ("\n# only a comment\n", ["3:1: the first line has to be subject,predicate,object,trust"]),
-    ("1,10,11,900\n", ["1:1: the first line has to be subject,predicate,object,trust"]),
-    ("subject;predicate;object;trust\n", ["1:1: the first line has to be subject,predicate,object,trust"]),
-    ("subject,predicate,Object,trust\n", ["1:19: the first line has to be subject,predicate,object,trust"]),
-    ("subject,predicate,object\n1,2,3\n", ["1:19: the first line has to be subject,predicate,object,trust"]),
-    ("subject,predicate,object,trust,hour\n", ["1:32: the first line has to be subject,predicate,object,trust"]),
+    ("", [f"1:1: {NO_HEADER}, and there is none"]),
+    ("\n# only a comment\n", [f"3:1: {NO_HEADER}, and there is none"]),
+    ("1,10,11,900\n", [f"1:1: {NO_HEADER}, and is 1,10,11,900"]),
+    ("subject,predicate,Object,trust\n", [f"1:19: {NO_HEADER}, and is subject,predicate,Object,trust"]),
+    ("subject,predicate,object\n1,2,3\n", [f"1:19: {NO_HEADER}, and is subject,predicate,object"]),
+    ("subject,predicate,object,trust,hour\n", [f"1:32: {NO_HEADER}, and is subject,predicate,object,tr..."]),
+    ("# why\n\n  p\u00e4n | strike\r\n", [f"3:3: {NO_HEADER}, and is p\\xe4n | strike: {separated_by('vertical bars')}"]),
+    # Other separators; one beside a comma is part of a field.
+    ("subject;predicate;object;trust\n", [f"1:1: {NO_HEADER}, and is subject;predicate;object;trust: {separated_by('semicolons')}"]),
+    (
+        "subject\tpredicate\tobject\ttrust\n",
+        [f"1:1: {NO_HEADER}, and is subject\\tpredicate\\tobject\\...: {separated_by('tabs')}"],
+    ),
+    ("subject|predicate|object|trust\n", [f"1:1: {NO_HEADER}, and is subject|predicate|object|trust: {separated_by('vertical bars')}"]),
+    ("1;10;11;900\n", [f"1:1: {NO_HEADER}, and is 1;10;11;900: {separated_by('semicolons')}"]),
+    ("subject,predicate,object;trust\n", [f"1:19: {NO_HEADER}, and is subject,predicate,object;trust"]),
+    ("subject predicate object trust\n", [f"1:1: {NO_HEADER}, and is subject predicate object trust"]),
     (HEADER + "1,10,11,1200\n", ["2:9: trust 1200 is not in -1000..1000"]),
     (HEADER + "1,10,11,-1001\n", ["2:9: trust -1001 is not in -1000..1000"]),
     (HEADER + "1,10,11,0.9\n", ["2:9: trust 0.9 is not a whole number of thousandths"]),
