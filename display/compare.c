@@ -18,14 +18,13 @@
 #include "randwyler.h"
 #include "refusal.h"
 #include "row.h"
-#include "sizes.h"
 #include "tree.h"
 
 enum { LISTED = 0, REFUSED = 1, UNUSABLE = 2, BROKEN = 3 };
 /* Trees stand side by side if both have at most MOST_COLUMNS columns. The left one takes LEAST_COLUMNS at least, for the line of
  * counts below it, and GAP columns are between them. */
 enum { MOST_COLUMNS = 60, LEAST_COLUMNS = 32, GAP = 4 };
-enum { SPACE_WORDS = MOST_ROWS * ROW_WORDS };
+enum { SPACE_WORDS = RANDWYLER_MOST_ROWS * RANDWYLER_ROW_WORDS };
 
 /* The query or its rewriting, and the answer to it, whose rows stand in `space`. */
 struct side {
@@ -53,7 +52,7 @@ static void write_tree(FILE *out, const struct side *side)
 static void write_counts(FILE *out, const struct side *side)
 {
     const struct randwyler_evaluated *answer = &side->answer;
-    if (answer->number != 0) {
+    if (answer->number != RANDWYLER_ANSWERED) {
         fprintf(out, "refused %" PRIu32 " at %" PRIu64 ": %s\n", answer->number, answer->place, refused_for(answer->number));
     } else {
         fprintf(out, "rows %" PRIu32 " peak %" PRIu32 " pairs %" PRIu64 "\n", answer->rows, answer->peak, answer->pairs);
@@ -140,11 +139,17 @@ static void show_both(struct content facts, struct side sides[2])
     for (int i = 0; i < 2; i++) free(trees[i]);
 }
 
+/* The words of row i. */
+static const uint32_t *row_of(const struct side *side, size_t i)
+{
+    return side->space + RANDWYLER_ROW_WORDS * i;
+}
+
 /* Lists the rows of a side that is answered. */
 static int list(const char *title, const struct side *side)
 {
     printf("%s:%s\n", title, side->answer.rows == 0 ? " none" : "");
-    for (size_t i = 0; i < side->answer.rows; i++) print_row(side->space + ROW_WORDS * i);
+    for (size_t i = 0; i < side->answer.rows; i++) print_row(row_of(side, i));
     return LISTED;
 }
 
@@ -152,7 +157,7 @@ static int list(const char *title, const struct side *side)
 static void print_one(const struct side *side, size_t i)
 {
     printf("%s: ", side->name);
-    if (i < side->answer.rows) print_row(side->space + ROW_WORDS * i);
+    if (i < side->answer.rows) print_row(row_of(side, i));
     else puts("no such row");
 }
 
@@ -168,7 +173,7 @@ static size_t first_difference(const struct side *query, const struct side *rewr
 {
     size_t i = 0;
     while (i < query->answer.rows && i < rewriting->answer.rows &&
-           memcmp(query->space + ROW_WORDS * i, rewriting->space + ROW_WORDS * i, ROW_WORDS * sizeof *query->space) == 0) {
+           memcmp(row_of(query, i), row_of(rewriting, i), RANDWYLER_ROW_WORDS * sizeof *query->space) == 0) {
         i++;
     }
     return i;
@@ -178,12 +183,12 @@ static size_t first_difference(const struct side *query, const struct side *rewr
 static int judge(const struct side *query, const struct side *rewriting)
 {
     const struct randwyler_evaluated *of_query = &query->answer, *of_rewriting = &rewriting->answer;
-    if (of_query->number != 0 && of_rewriting->number != 0) {
+    if (of_query->number != RANDWYLER_ANSWERED && of_rewriting->number != RANDWYLER_ANSWERED) {
         puts("neither is answered: there are no rows to compare");
         return REFUSED;
     }
-    if (of_query->number != 0) return list("only the rewriting is answered; its rows", rewriting);
-    if (of_rewriting->number != 0) return broken("the query is answered, and its rewriting is not");
+    if (of_query->number != RANDWYLER_ANSWERED) return list("only the rewriting is answered; its rows", rewriting);
+    if (of_rewriting->number != RANDWYLER_ANSWERED) return broken("the query is answered, and its rewriting is not");
     size_t same = first_difference(query, rewriting);
     if (same < of_query->rows || same < of_rewriting->rows) {
         printf("THE ROWS DIFFER, first in row %zu, counted from 0:\n", same);
@@ -202,22 +207,22 @@ static int show_query(struct content facts, struct side *query)
     char *tree = lines_of(write_tree, query);
     show_alone(facts, query, tree);
     free(tree);
-    return query->answer.number != 0 ? REFUSED : list("its rows", query);
+    return query->answer.number != RANDWYLER_ANSWERED ? REFUSED : list("its rows", query);
 }
 
 /* Checks both inputs, and compares. */
 static int compare(struct content facts, struct content query, uint32_t *spaces[2])
 {
     struct randwyler_refusal refusal = randwyler_check(facts.bytes, facts.length, query.bytes, query.length);
-    if (refusal.number != 0) {
+    if (refusal.number != RANDWYLER_ANSWERED) {
         print_refusal(refused_input(refusal.number), refusal.number, refusal.place);
         return REFUSED;
     }
-    uint8_t output[MOST_RESULT];
+    uint8_t output[RANDWYLER_MOST_RESULT_BYTES];
     struct randwyler_rewritten rewritten = randwyler_rewrite(query.bytes, query.length, output, sizeof output);
     struct side sides[2] = {{.name = "query", .bytes = query.bytes, .length = query.length, .space = spaces[0]},
                             {.name = "rewriting", .bytes = output, .length = (size_t)rewritten.length, .space = spaces[1]}};
-    if (rewritten.number != 0) {
+    if (rewritten.number != RANDWYLER_ANSWERED) {
         print_refusal("rewriting", rewritten.number, rewritten.place);
         return show_query(facts, &sides[0]);
     }

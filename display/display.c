@@ -13,7 +13,6 @@
 #include "files.h"
 #include "randwyler.h"
 #include "refusal.h"
-#include "sizes.h"
 #include "tree.h"
 
 enum { SOUND = 0, REFUSED = 1, UNUSABLE = 2 };
@@ -21,11 +20,11 @@ enum { SOUND = 0, REFUSED = 1, UNUSABLE = 2 };
 /* Prints a sound query and its rewriting. */
 static void show_trees(struct content query)
 {
-    uint8_t output[MOST_RESULT];
+    uint8_t output[RANDWYLER_MOST_RESULT_BYTES];
     struct randwyler_rewritten rewritten = randwyler_rewrite(query.bytes, query.length, output, sizeof output);
     printf("query, %zu bytes:\n", query.length);
     print_tree(stdout, query.bytes, query.length);
-    if (rewritten.number != 0) {
+    if (rewritten.number != RANDWYLER_ANSWERED) {
         print_refusal("rewriting", rewritten.number, rewritten.place);
         return;
     }
@@ -37,11 +36,11 @@ static void show_trees(struct content query)
 static int show(struct content facts, struct content query)
 {
     struct randwyler_refusal refusal = randwyler_check(facts.bytes, facts.length, query.bytes, query.length);
-    if (refusal.number != 0) {
+    if (refusal.number != RANDWYLER_ANSWERED) {
         print_refusal(refused_input(refusal.number), refusal.number, refusal.place);
         return REFUSED;
     }
-    printf("sound: facts of %zu records in %zu bytes, query of %zu bytes\n", facts.length / RECORD_BYTES, facts.length,
+    printf("sound: facts of %zu records in %zu bytes, query of %zu bytes\n", facts.length / RANDWYLER_RECORD_BYTES, facts.length,
            query.length);
     show_trees(query);
     return SOUND;

@@ -3,6 +3,8 @@
 #include <inttypes.h>
 #include <stdio.h>
 
+#include "randwyler.h"
+
 /* What a refusal number means: the input at fault, what its place counts, and the reason. */
 struct meaning {
     const char *input;
@@ -13,15 +15,15 @@ struct meaning {
 static struct meaning meaning_of(uint32_t number)
 {
     switch (number) {
-    case 1: return (struct meaning){"facts", "byte", "the last record is incomplete"};
-    case 2: return (struct meaning){"facts", "byte", "too many records"};
-    case 3: return (struct meaning){"facts", "record", "a term or the trust has no valid value"};
-    case 4: return (struct meaning){"facts", "record", "not above the record in front of it"};
-    case 5: return (struct meaning){"query", "byte", "too long"};
-    case 6: return (struct meaning){"query", "byte", "not well-formed here"};
-    case 7: return (struct meaning){"query", "byte", "the variable of this project trust is used elsewhere too"};
-    case 8: return (struct meaning){"row space", "place", "over 65,535 rows"};
-    case 9: return (struct meaning){"output", "length", "the rewriting is that long"};
+    case RANDWYLER_TABLE_LENGTH: return (struct meaning){"facts", "byte", "the last record is incomplete"};
+    case RANDWYLER_TOO_MANY_RECORDS: return (struct meaning){"facts", "byte", "too many records"};
+    case RANDWYLER_BAD_RECORD: return (struct meaning){"facts", "record", "a term or the trust has no valid value"};
+    case RANDWYLER_NOT_RISING: return (struct meaning){"facts", "record", "not above the record in front of it"};
+    case RANDWYLER_QUERY_TOO_LONG: return (struct meaning){"query", "byte", "too long"};
+    case RANDWYLER_MALFORMED: return (struct meaning){"query", "byte", "not well-formed here"};
+    case RANDWYLER_VARIABLE_CLASH: return (struct meaning){"query", "byte", "the variable of this project trust is used elsewhere too"};
+    case RANDWYLER_NO_ROOM: return (struct meaning){"row space", "place", "over 65,535 rows"};
+    case RANDWYLER_OUTPUT_TOO_SHORT: return (struct meaning){"output", "length", "the rewriting is that long"};
     default: return (struct meaning){"input", "place", "unknown refusal"};
     }
 }

@@ -7,7 +7,7 @@
 
 #include <stdint.h>
 
-/* For the ROW_WORDS words of a row. */
+/* For the RANDWYLER_ROW_WORDS words of a row. */
 void print_row(const uint32_t *row);
 
 #endif

@@ -2,7 +2,7 @@
 
 #include <inttypes.h>
 
-#include "sizes.h"
+#include "randwyler.h"
 
 /* What is left of a query, and where its tree goes. */
 struct rest {
@@ -91,7 +91,7 @@ static int print_head(struct rest *rest, int depth)
     case 5: fprintf(rest->out, "project trust ?%" PRIu32 "\n", n); return 1;
     case 6: {
         uint32_t bounds = take(rest, 3);
-        int low = (int)(bounds >> 12) - TRUST_ZERO, high = (int)(bounds & 0xFFF) - TRUST_ZERO;
+        int low = (int)(bounds >> 12) - RANDWYLER_TRUST_ZERO, high = (int)(bounds & 0xFFF) - RANDWYLER_TRUST_ZERO;
         fprintf(rest->out, "ensure trust %d to %d\n", low, high);
         return 1;
     }

@@ -4,7 +4,7 @@
 
 #include "randwyler.h"
 
-enum { VARIABLES = 16, ROW_WORDS = 17 };
+enum { VARIABLES = RANDWYLER_VARIABLES, ROW_WORDS = RANDWYLER_ROW_WORDS };
 enum { HONEST, OTHER_WORD, ROW_LESS, ROW_MORE, REFUSED, GREATER_PEAK, MORE_PAIRS };
 
 struct randwyler_refusal randwyler_check(const uint8_t *table, size_t table_len, const uint8_t *query, size_t query_len)
