@@ -1,7 +1,7 @@
 -- A pattern set over an accepted table lists every solution once and nothing else (`cardinality-set`), as Definition 2.3 of source
 -- document 000 has it; with the operators' laws (Cardinalities) every node of a checked query has the published cardinalities
 -- (`checked-published`). A row is listed as often as a tuple of records (Tuples) gives it. Groups: one variable; a tuple that gives the
--- cells; the only such tuple; pattern sets; nodes. Assumes nothing.
+-- cells; the only such tuple; pattern sets; what a solution sets; nodes. Assumes nothing.
 use mathlib.Core.Path.{_≡_, refl, sym, ap, _∙_}
 use mathlib.Core.Bool.{Bool, true, false, _&&_, _||_, not, and-comm, and-assoc, or-assoc}
 use mathlib.Core.List.{List, [], _∷_, _++_, map}
@@ -19,12 +19,12 @@ use Rattle.tsparql.specs.Table.{Fact, wholeTable, factsIn}
 use Rattle.tsparql.specs.PatternSets.{Aggregate, setRows, rowsOver}
 use Rattle.tsparql.specs.Rows.{rowsOf}
 use Rattle.tsparql.specs.Tuples.{tuples, Place, places, termStands, termsStand, isVariable, termsFor}
-use Rattle.tsparql.specs.Tuples.{oneTerm, fits, gotten, placedCells, tupleRow, tupleRows}
+use Rattle.tsparql.specs.Tuples.{oneTerm, fits, firstTerm, placedCells, tupleRow, tupleRows}
 use Rattle.tsparql.specs.Reading.{queryNode}
 use Rattle.tsparql.specs.WellFormed.{SlotFormed, PatternFormed, NodeFormed}
 use Rattle.tsparql.specs.Check.{Passes, slotVariables, variablesOf, evaluateLimit, check}
-use Rattle.tsparql.specs.Cardinality.{sameCells, sameRow, cardinality, countIf, slotCell, becomes, isRecord, subgraph}
-use Rattle.tsparql.specs.Cardinality.{setCardinality, publishedCardinality}
+use Rattle.tsparql.specs.Cardinality.{sameCells, sameRow, cardinality, countIf, slotCell, becomes, isRecord, isSolution, subgraph}
+use Rattle.tsparql.specs.Cardinality.{setCardinality, publishedCardinality, Published, EveryNode}
 use Rattle.tsparql.proofs.ListLaws.{and-left, and-right, and-swap, test-eq, every-of, every-weaken, every-append}
 use Rattle.tsparql.proofs.ListLaws.{every-parts, every-map, every-concatMap}
 use Rattle.tsparql.proofs.ListLaws.{allPass-every, allPass-passes, allPass-cong, allPass-and, allPass-only, anyPass-append}
@@ -50,7 +50,7 @@ some [] = false
 some (x ∷ xs) = true
 
 -- one term for the variable, which its cell is: the cell is all the terms, and free where there is none
-oneTerm-cell : (c : Cell) (bs : List ℕ) → oneTerm bs && sameCell c (gotten bs) ≡ hasTerms c bs && (isFree c || some bs)
+oneTerm-cell : (c : Cell) (bs : List ℕ) → oneTerm bs && sameCell c (firstTerm bs) ≡ hasTerms c bs && (isFree c || some bs)
 oneTerm-cell free [] = refl
 oneTerm-cell (term a) [] = refl
 oneTerm-cell (trusted t) [] = refl
@@ -140,11 +140,11 @@ onlySet cs xs = allPass (λ v. isFree (cellAt cs v) || some (termsFor v xs)) var
 fits-says : (cs : List Cell) (xs : List Place) → InRange xs
     → fits xs && sameCells cs (placedCells xs) ≡ (eqb (length cs) 16 && onlySet cs xs) && allPass (says cs) xs
 fits-says cs xs h =
-    ap (λ (t : Bool). fits xs && t) (sameCells-variables cs (λ v. gotten (termsFor v xs)))
+    ap (λ (t : Bool). fits xs && t) (sameCells-variables cs (λ v. firstTerm (termsFor v xs)))
     ∙ and-swap (termsStand xs) one long gave
     ∙ ap (λ (t : Bool). (termsStand xs && long) && t)
-    (sym (allPass-and (λ v. oneTerm (termsFor v xs)) (λ v. sameCell (cellAt cs v) (gotten (termsFor v xs))) variables)
-    ∙ allPass-cong (λ v. oneTerm (termsFor v xs) && sameCell (cellAt cs v) (gotten (termsFor v xs)))
+    (sym (allPass-and (λ v. oneTerm (termsFor v xs)) (λ v. sameCell (cellAt cs v) (firstTerm (termsFor v xs))) variables)
+    ∙ allPass-cong (λ v. oneTerm (termsFor v xs) && sameCell (cellAt cs v) (firstTerm (termsFor v xs)))
     (λ v. hasTerms (cellAt cs v) (termsFor v xs) && (isFree (cellAt cs v) || some (termsFor v xs))) variables
     (every-of (λ v. oneTerm-cell (cellAt cs v) (termsFor v xs)) variables)
     ∙ allPass-and (λ v. hasTerms (cellAt cs v) (termsFor v xs)) (λ v. isFree (cellAt cs v) || some (termsFor v xs)) variables
@@ -160,7 +160,7 @@ fits-says cs xs h =
     long = eqb (length cs) 16
 
     gave : Bool
-    gave = allPass (λ v. sameCell (cellAt cs v) (gotten (termsFor v xs))) variables
+    gave = allPass (λ v. sameCell (cellAt cs v) (firstTerm (termsFor v xs))) variables
 
 -- ---- the only such tuple
 
@@ -238,27 +238,34 @@ keepIf-once {A = A} k p (x ∷ xs) same r = at (p x) refl (keepIf-once k p xs sa
     at true e h = rw (keepIf-none p xs (every-weaken (λ y l. fails e y l (p y) refl) xs (r .0))) (omega arith)
     at false e h = h
 
--- a pattern becomes one triple
-becomes-key : (cs : List Cell) (p : Pattern) (f g : Fact) → becomes cs p f ≡ true → becomes cs p g ≡ true → key f ≡ key g
-becomes-key cs p f g d e =
-    omega (
-      arith,
-      one (p .subject) (f .subject) (g .subject) (parts f d .0) (parts g e .0),
-      one (p .predicate) (f .predicate) (g .predicate) (parts f d .1) (parts g e .1),
-      one (p .object) (f .object) (g .object) (parts f d .2) (parts g e .2),
+-- the slots of a pattern that becomes the triple of a fact
+becomes-parts : (cs : List Cell) (p : Pattern) (f : Fact) → becomes cs p f ≡ true
+    → (sameCell (slotCell cs (p .subject)) (term (f .subject)) ≡ true)
+    × (sameCell (slotCell cs (p .predicate)) (term (f .predicate)) ≡ true) × (sameCell (slotCell cs (p .object)) (term (f .object)) ≡ true)
+becomes-parts cs p f h =
+    let two = and-left (at (p .subject) (f .subject) && at (p .predicate) (f .predicate)) (at (p .object) (f .object)) h in (
+      and-left (at (p .subject) (f .subject)) (at (p .predicate) (f .predicate)) two,
+      and-right (at (p .subject) (f .subject)) (at (p .predicate) (f .predicate)) two,
+      and-right (at (p .subject) (f .subject) && at (p .predicate) (f .predicate)) (at (p .object) (f .object)) h,
     )
   where
     at : Slot → ℕ → Bool
     at s b = sameCell (slotCell cs s) (term b)
 
-    parts : (u : Fact) → becomes cs p u ≡ true
-        → (at (p .subject) (u .subject) ≡ true) × (at (p .predicate) (u .predicate) ≡ true) × (at (p .object) (u .object) ≡ true)
-    parts u h =
-        let two = and-left (at (p .subject) (u .subject) && at (p .predicate) (u .predicate)) (at (p .object) (u .object)) h in (
-          and-left (at (p .subject) (u .subject)) (at (p .predicate) (u .predicate)) two,
-          and-right (at (p .subject) (u .subject)) (at (p .predicate) (u .predicate)) two,
-          and-right (at (p .subject) (u .subject) && at (p .predicate) (u .predicate)) (at (p .object) (u .object)) h,
-        )
+-- a pattern becomes one triple
+becomes-key : (cs : List Cell) (p : Pattern) (f g : Fact) → becomes cs p f ≡ true → becomes cs p g ≡ true → key f ≡ key g
+becomes-key cs p f g d e =
+    let of-f = becomes-parts cs p f d in
+    let of-g = becomes-parts cs p g e in
+    omega (
+      arith,
+      one (p .subject) (f .subject) (g .subject) (of-f .0) (of-g .0),
+      one (p .predicate) (f .predicate) (g .predicate) (of-f .1) (of-g .1),
+      one (p .object) (f .object) (g .object) (of-f .2) (of-g .2),
+    )
+  where
+    at : Slot → ℕ → Bool
+    at s b = sameCell (slotCell cs s) (term b)
 
     one : (s : Slot) (a b : ℕ) → at s a ≡ true → at s b ≡ true → a ≡ b
     one s a b h k =
@@ -409,6 +416,40 @@ cardinality-set g fs k ps h r =
         (λ v. isFree (cellAt (r .cells) v) || anyPass (eqb v) (concatMap variablesOf ps)) variables
         (every-of (λ v. ap (λ (t : Bool). isFree (cellAt (r .cells) v) || t) (termsFor-some v ps us e)) variables)))
 
+-- ---- what a solution sets
+
+-- the variable is set
+abbrev IsSet : List Cell → ℕ → Type 0
+IsSet cs v = isFree (cellAt cs v) ≡ false
+
+becomes-set : (cs : List Cell) (p : Pattern) (f : Fact) → becomes cs p f ≡ true → Every (IsSet cs) (variablesOf p)
+becomes-set cs p f h =
+    let parts = becomes-parts cs p f h in
+    every-append (IsSet cs) (slotVariables (p .subject)) _ (slot (p .subject) (f .subject) (parts .0))
+    (every-append (IsSet cs) (slotVariables (p .predicate)) _ (slot (p .predicate) (f .predicate) (parts .1))
+    (slot (p .object) (f .object) (parts .2)))
+  where
+    slot : (s : Slot) (b : ℕ) → sameCell (slotCell cs s) (term b) ≡ true → Every (IsSet cs) (slotVariables s)
+    slot (aTerm a) b e = tt
+    slot (aVariable v) b e = (ap isFree (sameCell-true (cellAt cs v) (term b) e), tt)
+
+-- what one element that passes gives
+anyPass-gives : {A : Type 0} (C : Type 0) (p : A → Bool) (xs : List A) → ((x : A) → p x ≡ true → C) → anyPass p xs ≡ true → C
+anyPass-gives C p [] h e = absurd (let z : _≡_ {A = ℕ} 0 1 = cc in omega arith)
+anyPass-gives C p (x ∷ xs) h e = at (p x) refl e (anyPass-gives C p xs h)
+  where
+    at : (t : Bool) → p x ≡ t → t || anyPass p xs ≡ true → (anyPass p xs ≡ true → C) → C
+    at true d e k = h x d
+    at false d e k = k e
+
+-- a solution sets every variable of the patterns
+pub solution-set : (fs : List Fact) (ps : List Pattern) (cs : List Cell) → isSolution fs ps cs ≡ true
+    → Every (IsSet cs) (concatMap variablesOf ps)
+solution-set fs ps cs e =
+    every-concatMap (IsSet cs) variablesOf ps
+    (every-weaken (λ p k. anyPass-gives (Every (IsSet cs) (variablesOf p)) (becomes cs p) fs (becomes-set cs p) k) ps
+    (allPass-passes (isRecord fs cs) ps (and-right (eqb (length cs) 16) _ (and-left _ _ e))))
+
 -- ---- nodes
 
 -- the variables of a well-formed pattern are below 16
@@ -424,8 +465,7 @@ formed-variables p h =
     slot (aVariable v) k = (k, tt)
 
 -- how often a row stands among the rows of a well-formed node is the published cardinality, over facts whose triples rise
-pub cardinality-published : (g : Aggregate) (fs : List Fact) → Rising key fs → (q : Node) → NodeFormed q → (r : Row)
-    → cardinality (rowsOver g fs q) r ≡ publishedCardinality g fs q r
+pub cardinality-published : (g : Aggregate) (fs : List Fact) → Rising key fs → (q : Node) → NodeFormed q → Published g fs q
 unfolding rowsOf publishedCardinality
 cardinality-published g fs k (patternSet ps) h r =
     cardinality-set g fs k ps (every-concatMap (λ v. v < 16) variablesOf ps (every-weaken formed-variables ps (h .1))) r
@@ -436,11 +476,32 @@ cardinality-published g fs k (filter c x) h r = cardinality-filter c (rowsOver g
 cardinality-published g fs k (projectTrust v x) h r = cardinality-project v (rowsOver g fs x) r
 cardinality-published g fs k (ensureTrust l u x) h r = cardinality-ensure l u (rowsOver g fs x) r
 
--- over a table and a query that pass the check, the rows of the query have the published cardinalities
-pub checked-published : (g : Aggregate) (t s : List ℕ) → Passes (check t s) → (r : Row)
-    → cardinality (rowsOver g (factsIn (wholeTable t) t) (queryNode s)) r
-    ≡ publishedCardinality g (factsIn (wholeTable t) t) (queryNode s) r
-checked-published g t s z r =
+-- and so it is at every node in it
+formed-published : (g : Aggregate) (fs : List Fact) → Rising key fs → (q : Node) → NodeFormed q → EveryNode (Published g fs) q
+formed-published g fs k (patternSet ps) h = cardinality-published g fs k (patternSet ps) h
+formed-published g fs k (join x y) h = (
+  cardinality-published g fs k (join x y) h,
+  formed-published g fs k x (h .0),
+  formed-published g fs k y (h .1),
+)
+formed-published g fs k (leftJoin c x y) h = (
+  cardinality-published g fs k (leftJoin c x y) h,
+  formed-published g fs k x (h .1),
+  formed-published g fs k y (h .2),
+)
+formed-published g fs k (union x y) h = (
+  cardinality-published g fs k (union x y) h,
+  formed-published g fs k x (h .0),
+  formed-published g fs k y (h .1),
+)
+formed-published g fs k (filter c x) h = (cardinality-published g fs k (filter c x) h, formed-published g fs k x (h .1))
+formed-published g fs k (projectTrust v x) h = (cardinality-published g fs k (projectTrust v x) h, formed-published g fs k x (h .1))
+formed-published g fs k (ensureTrust l u x) h = (cardinality-published g fs k (ensureTrust l u x) h, formed-published g fs k x (h .2))
+
+-- over a table and a query that pass the check, the rows of every node of the query have the published cardinalities
+pub checked-published : (g : Aggregate) (t s : List ℕ) → Passes (check t s)
+    → EveryNode (Published g (factsIn (wholeTable t) t)) (queryNode s)
+checked-published g t s z =
     let both = check-parts t s z in
-    cardinality-published g (factsIn (wholeTable t) t) (factsIn-rising t (both .0)) (queryNode s)
-    (query-checked evaluateLimit s (both .1) .formed) r
+    formed-published g (factsIn (wholeTable t) t) (factsIn-rising t (both .0)) (queryNode s)
+    (query-checked evaluateLimit s (both .1) .formed)

@@ -18,7 +18,7 @@ use Rattle.tsparql.specs.Table.{Fact}
 use Rattle.tsparql.specs.PatternSets.{slotFits, bindSlot, bindPattern, matches, Choice, withFact, choices}
 use Rattle.tsparql.specs.PatternSets.{Aggregate, choiceRow, setRows}
 use Rattle.tsparql.specs.Tuples.{tuples, Place, patternPlaces, places, termStands, termsStand, isVariable, termsFor}
-use Rattle.tsparql.specs.Tuples.{oneTerm, fits, gotten, placedCells, tupleRow, tupleRows}
+use Rattle.tsparql.specs.Tuples.{oneTerm, fits, firstTerm, placedCells, tupleRow, tupleRows}
 use Rattle.tsparql.proofs.ListLaws.{and-left, and-right, every-of, every-weaken, every-upFrom}
 use Rattle.tsparql.proofs.ListLaws.{allPass-every, allPass-passes, allPass-cong, allPass-and, allPass-only}
 use Rattle.tsparql.proofs.ListLaws.{keepIf-passes, keepIf-cong, keepIf-and, map-onlyIf, keepIf-map}
@@ -139,7 +139,7 @@ last-term a (b ∷ bs) e =
     let same = eqb-true a b (and-left (eqb a b) (allPass (eqb a) bs) e) in
     rw (← same) (last-term a bs (and-right (eqb a b) (allPass (eqb a) bs) e))
 
-last-free : (bs : List ℕ) → oneTerm bs ≡ true → last free bs ≡ gotten bs
+last-free : (bs : List ℕ) → oneTerm bs ≡ true → last free bs ≡ firstTerm bs
 last-free [] e = refl
 last-free (b ∷ bs) e = last-term b bs e
 
@@ -262,7 +262,7 @@ fitInTurn-fits xs =
 bindInTurn-placed : (xs : List Place) → fits xs ≡ true → bindInTurn xs noCells ≡ placedCells xs
 bindInTurn-placed xs e =
     bindInTurn-last xs noCells refl
-    ∙ map-cong (λ v. last free (termsFor v xs)) (λ v. gotten (termsFor v xs)) variables
+    ∙ map-cong (λ v. last free (termsFor v xs)) (λ v. firstTerm (termsFor v xs)) variables
     (every-weaken (λ v h. last-free (termsFor v xs) h) variables one)
   where
     one : Every (λ v. oneTerm (termsFor v xs) ≡ true) variables
