@@ -19,7 +19,7 @@ use Rattle.tsparql.specs.Table.{Fact, wholeTable, factsIn}
 use Rattle.tsparql.specs.PatternSets.{Aggregate, setRows, rowsOver}
 use Rattle.tsparql.specs.Rows.{rowsOf}
 use Rattle.tsparql.specs.Tuples.{tuples, Place, places, termStands, termsStand, isVariable, termsFor}
-use Rattle.tsparql.specs.Tuples.{oneTerm, fits, firstTerm, placedCells, tupleRow, tupleRows}
+use Rattle.tsparql.specs.Tuples.{allSame, fits, firstTerm, placedCells, tupleRow, tupleRows}
 use Rattle.tsparql.specs.Reading.{queryNode}
 use Rattle.tsparql.specs.WellFormed.{SlotFormed, PatternFormed, NodeFormed}
 use Rattle.tsparql.specs.Check.{Passes, slotVariables, variablesOf, evaluateLimit, check}
@@ -50,11 +50,11 @@ some [] = false
 some (x ∷ xs) = true
 
 -- one term for the variable, which its cell is: the cell is all the terms, and free where there is none
-oneTerm-cell : (c : Cell) (bs : List ℕ) → oneTerm bs && sameCell c (firstTerm bs) ≡ hasTerms c bs && (isFree c || some bs)
-oneTerm-cell free [] = refl
-oneTerm-cell (term a) [] = refl
-oneTerm-cell (trusted t) [] = refl
-oneTerm-cell c (b ∷ bs) = at (sameCell c (term b)) refl
+allSame-cell : (c : Cell) (bs : List ℕ) → allSame bs && sameCell c (firstTerm bs) ≡ hasTerms c bs && (isFree c || some bs)
+allSame-cell free [] = refl
+allSame-cell (term a) [] = refl
+allSame-cell (trusted t) [] = refl
+allSame-cell c (b ∷ bs) = at (sameCell c (term b)) refl
   where
     at : (t : Bool) → sameCell c (term b) ≡ t → allPass (eqb b) bs && t ≡ (t && hasTerms c bs) && (isFree c || true)
     at true e = rw (sameCell-true c (term b) e, and-comm (allPass (eqb b) bs) true)
@@ -143,10 +143,10 @@ fits-says cs xs h =
     ap (λ (t : Bool). fits xs && t) (sameCells-variables cs (λ v. firstTerm (termsFor v xs)))
     ∙ and-swap (termsStand xs) one long gave
     ∙ ap (λ (t : Bool). (termsStand xs && long) && t)
-    (sym (allPass-and (λ v. oneTerm (termsFor v xs)) (λ v. sameCell (cellAt cs v) (firstTerm (termsFor v xs))) variables)
-    ∙ allPass-cong (λ v. oneTerm (termsFor v xs) && sameCell (cellAt cs v) (firstTerm (termsFor v xs)))
+    (sym (allPass-and (λ v. allSame (termsFor v xs)) (λ v. sameCell (cellAt cs v) (firstTerm (termsFor v xs))) variables)
+    ∙ allPass-cong (λ v. allSame (termsFor v xs) && sameCell (cellAt cs v) (firstTerm (termsFor v xs)))
     (λ v. hasTerms (cellAt cs v) (termsFor v xs) && (isFree (cellAt cs v) || some (termsFor v xs))) variables
-    (every-of (λ v. oneTerm-cell (cellAt cs v) (termsFor v xs)) variables)
+    (every-of (λ v. allSame-cell (cellAt cs v) (termsFor v xs)) variables)
     ∙ allPass-and (λ v. hasTerms (cellAt cs v) (termsFor v xs)) (λ v. isFree (cellAt cs v) || some (termsFor v xs)) variables
     ∙ and-comm (haveTerms cs xs) (onlySet cs xs))
     ∙ ap (λ (t : Bool). t && (onlySet cs xs && haveTerms cs xs)) (and-comm (termsStand xs) long)
@@ -154,7 +154,7 @@ fits-says cs xs h =
     ∙ ap (λ (t : Bool). (long && onlySet cs xs) && t) (and-comm (termsStand xs) (haveTerms cs xs) ∙ says-terms cs xs h)
   where
     one : Bool
-    one = allPass (λ v. oneTerm (termsFor v xs)) variables
+    one = allPass (λ v. allSame (termsFor v xs)) variables
 
     long : Bool
     long = eqb (length cs) 16

@@ -18,7 +18,7 @@ use Rattle.tsparql.specs.Table.{Fact}
 use Rattle.tsparql.specs.PatternSets.{slotFits, bindSlot, bindPattern, matches, Choice, withFact, choices}
 use Rattle.tsparql.specs.PatternSets.{Aggregate, choiceRow, setRows}
 use Rattle.tsparql.specs.Tuples.{tuples, Place, patternPlaces, places, termStands, termsStand, isVariable, termsFor}
-use Rattle.tsparql.specs.Tuples.{oneTerm, fits, firstTerm, placedCells, tupleRow, tupleRows}
+use Rattle.tsparql.specs.Tuples.{allSame, fits, firstTerm, placedCells, tupleRow, tupleRows}
 use Rattle.tsparql.proofs.ListLaws.{and-left, and-right, every-of, every-weaken, every-upFrom}
 use Rattle.tsparql.proofs.ListLaws.{allPass-every, allPass-passes, allPass-cong, allPass-and, allPass-only}
 use Rattle.tsparql.proofs.ListLaws.{keepIf-passes, keepIf-cong, keepIf-and, map-onlyIf, keepIf-map}
@@ -129,7 +129,7 @@ follow-term a (b ∷ bs) = at (eqb a b) refl (follow-term b bs)
     at false e h = refl
 
 -- from a free cell on: one term
-follow-free : (bs : List ℕ) → follow free bs ≡ oneTerm bs
+follow-free : (bs : List ℕ) → follow free bs ≡ allSame bs
 follow-free [] = refl
 follow-free (b ∷ bs) = follow-term b bs
 
@@ -139,7 +139,7 @@ last-term a (b ∷ bs) e =
     let same = eqb-true a b (and-left (eqb a b) (allPass (eqb a) bs) e) in
     rw (← same) (last-term a bs (and-right (eqb a b) (allPass (eqb a) bs) e))
 
-last-free : (bs : List ℕ) → oneTerm bs ≡ true → last free bs ≡ firstTerm bs
+last-free : (bs : List ℕ) → allSame bs ≡ true → last free bs ≡ firstTerm bs
 last-free [] e = refl
 last-free (b ∷ bs) e = last-term b bs e
 
@@ -255,7 +255,7 @@ fitInTurn-fits : (xs : List Place) → fitInTurn xs noCells ≡ fits xs
 fitInTurn-fits xs =
     fitInTurn-follows xs noCells refl
     ∙ ap (λ (t : Bool). termsStand xs && t)
-    (allPass-cong (λ v. follow free (termsFor v xs)) (λ v. oneTerm (termsFor v xs)) variables
+    (allPass-cong (λ v. follow free (termsFor v xs)) (λ v. allSame (termsFor v xs)) variables
     (every-of (λ v. follow-free (termsFor v xs)) variables))
 
 -- and then leave that term
@@ -265,8 +265,8 @@ bindInTurn-placed xs e =
     ∙ map-cong (λ v. last free (termsFor v xs)) (λ v. firstTerm (termsFor v xs)) variables
     (every-weaken (λ v h. last-free (termsFor v xs) h) variables one)
   where
-    one : Every (λ v. oneTerm (termsFor v xs) ≡ true) variables
-    one = allPass-passes (λ v. oneTerm (termsFor v xs)) variables (and-right (termsStand xs) _ e)
+    one : Every (λ v. allSame (termsFor v xs) ≡ true) variables
+    one = allPass-passes (λ v. allSame (termsFor v xs)) variables (and-right (termsStand xs) _ e)
 
 -- a pattern set lists the rows of the tuples of records under which every variable gets one term, in their order
 pub setRows-tuples : (g : Aggregate) (fs : List Fact) (ps : List Pattern) → setRows g fs ps ≡ tupleRows g fs ps
