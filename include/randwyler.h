@@ -36,7 +36,7 @@ extern "C" {
 #define RANDWYLER_MOST_ROWS 65535            /* of a capacity */
 #define RANDWYLER_TRUST_ZERO 1000            /* a row's trust is so much plus its thousandths: 0 to 2000 */
 #define RANDWYLER_UNKNOWN_TRUST 2001         /* a row's trust where it is unknown */
-#define RANDWYLER_FIRST_TRUST_CELL 1048576   /* a cell below is a term, or 0 if it is free; one from here on is a trust plus so much */
+#define RANDWYLER_FIRST_TRUST_CELL 1048576   /* a cell below is a term, or 0 if it is free; any other is a row's trust and so much */
 #define RANDWYLER_UNKNOWN_TRUST_CELL 1050577 /* a cell with an unknown trust: the sum of the two above */
 
 /* Why a call refuses its inputs, and where. Both are 0 if nothing is refused. The numbers have the names below, with RANDWYLER_ in

@@ -31,7 +31,7 @@ pub const MOST_ROWS: usize = 65_535;
 pub const TRUST_ZERO: u32 = 1_000;
 /// A row's trust where it is unknown.
 pub const UNKNOWN_TRUST: u32 = 2_001;
-/// A cell below is a term, or 0 if it is free; one from here on is a trust plus so much.
+/// A cell below is a term, or 0 if it is free; any other is a row's trust and so much.
 pub const FIRST_TRUST_CELL: u32 = 1_048_576;
 /// A cell with an unknown trust: the sum of the two above.
 pub const UNKNOWN_TRUST_CELL: u32 = 1_050_577;

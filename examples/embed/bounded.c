@@ -40,7 +40,7 @@ int main(void)
     evaluate("query", query, sizeof query, space, words);
     uint8_t output[RANDWYLER_MOST_RESULT_BYTES];
     struct randwyler_rewritten rewritten = randwyler_rewrite(query, sizeof query, output, sizeof output);
-    evaluate("rewriting", output, (size_t)rewritten.length, space, words);
+    if (rewritten.number == RANDWYLER_ANSWERED) evaluate("rewriting", output, (size_t)rewritten.length, space, words);
     free(space);
     return 0;
 }

@@ -1,5 +1,5 @@
-// Writers of a query's parts: the head of a node at the front of a lent output. Each answers how many bytes it wrote: none of a value out
-// of range, nor where they do not fit. What stands behind them is unchanged.
+// The writer of a node's head, at the front of a lent output. It answers how many bytes it wrote: none of a value out of range, nor where
+// they do not fit. What stands behind them is unchanged.
 ghost use mathlib.Core.Path.{_≡_};
 ghost use Prim.Native.Nat.{_+_, _≤_, _<_};
 ghost use lib.ListN.{length};

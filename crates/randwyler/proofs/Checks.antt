@@ -10,10 +10,10 @@ use Rattle.tsparql.specs.Check.{refuse, Passes, check}
 use Rattle.tsparql.specs.Table.{wholeTable}
 use Rattle.tsparql.specs.Calls.{ceilingRefused, ceilingAnswered, ceilingOver, ceilingCall}
 use Rattle.tsparql.proofs.QueryLaws.{check-parts}
-use Rattle.table.specs.Answers as T
+use Rattle.table.specs.Answers as TableAnswers
 use Rattle.table.specs.declared.View.{View}
 use Rattle.table.specs.declared.TableAnswer.the-variants as TA
-use Rattle.scope.specs.Variables as Q
+use Rattle.scope.specs.Variables as Variables
 use Rattle.scope.specs.declared.QueryAnswer.the-variants as QA
 use Rattle.ceiling.specs.Answers.{CeilingIs}
 use Rattle.ceiling.specs.declared.CeilingRead.the-variants as CR
@@ -25,21 +25,21 @@ use Rattle.randwyler.specs.Answers.{Checked, Ready}
 
 -- ---- both
 
-pub table-refuses : (t s : List ℕ) {n p : ℕ} → T.Checked t (TA.Refused n p) → Checked t s (Refused n p)
+pub table-refuses : (t s : List ℕ) {n p : ℕ} → TableAnswers.Checked t (TA.Refused n p) → Checked t s (Refused n p)
 unfolding check
 table-refuses t s h =
     let no = sym (h .sound) in
     record { sound = rw (no, no); refusal = h .refusal ∙ sym (rw no); view = rw (no, no) }
 
-module _ (t s : List ℕ) (v : View) (h : T.Checked t (TA.Sound v)) where
-  pub query-refuses : {n p : ℕ} → Q.Checked 5120 s (QA.Refused n p) → Checked t s (Refused n p)
+module _ (t s : List ℕ) (v : View) (h : TableAnswers.Checked t (TA.Sound v)) where
+  pub query-refuses : {n p : ℕ} → Variables.Checked 5120 s (QA.Refused n p) → Checked t s (Refused n p)
   unfolding check
   query-refuses k =
       let yes = sym (h .sound) in
       let no = sym (k .sound) in
       record { sound = rw (yes, no); refusal = k .refusal ∙ sym (rw yes); view = rw (yes, no) }
 
-  pub both-pass : Q.Checked 5120 s QA.Sound → Checked t s (Sound v)
+  pub both-pass : Variables.Checked 5120 s QA.Sound → Checked t s (Sound v)
   unfolding check
   both-pass k =
       let yes = sym (h .sound) in

@@ -1,5 +1,5 @@
--- The rows that an operator makes have the cardinalities of the published algebra (specs/Cardinality.antt); pattern sets, and all nodes
--- together, are in Solutions.
+-- The rows that an operator makes have the cardinalities of the published algebra (specs/Cardinality.antt); pattern sets are in
+-- Solutions, all nodes together in Published.
 -- By group: tests and lists; the tests of sameness are equality; sums over lists; a sum over a list is one over its distinct rows
 -- (sum-distinct); the cardinality of a row in lists put together; a law per operator; and Definition 3.1 as it is published,
 -- for a variable that is free (cardinality-project-free).
@@ -22,7 +22,7 @@ use Rattle.tsparql.specs.Rows.{merges, joinRows, stands, leftJoinRows}
 use Rattle.tsparql.specs.Cardinality.{FreeAt, sameCells, sameRow, cardinality, distinct, sumOver, countIf, isFalse, inDifference}
 use Rattle.tsparql.specs.Cardinality.{joinCardinality, filterCardinality, differenceCardinality, leftJoinCardinality}
 use Rattle.tsparql.specs.Cardinality.{unionCardinality, projectCardinality, ensureCardinality}
-use Rattle.tsparql.proofs.ListLaws.{and-left, and-right, and-both, test-eq, every-of, every-weaken}
+use Rattle.tsparql.proofs.ListLaws.{and-left, and-right, and-both, test-eq, every-of, every-weaken, allPass-keepIf}
 use Rattle.tsparql.proofs.ListLaws.{consIf-append, keepIf-append, keepIf-keepIf, keepIf-cong, keepIf-and}
 use Rattle.tsparql.proofs.ListLaws.{keepIf-none, keepIf-passes, keepIf-map, keepIf-concatMap}
 
@@ -44,15 +44,6 @@ allPass-or p q (x ∷ xs) e = rw (and-left (p x) (allPass p xs) e) (allPass-or p
 allPass-map : {A B : Type 0} (p : B → Bool) (f : A → B) (xs : List A) → allPass p (map f xs) ≡ allPass (λ x. p (f x)) xs
 allPass-map p f [] = refl
 allPass-map p f (x ∷ xs) = ap (λ (b : Bool). p (f x) && b) (allPass-map p f xs)
-
-allPass-consIf : {A : Type 0} (p : A → Bool) (b : Bool) (x : A) (xs : List A) → allPass p (consIf b x xs) ≡ (not b || p x) && allPass p xs
-allPass-consIf p true x xs = refl
-allPass-consIf p false x xs = refl
-
--- a test on those that pass another
-allPass-keepIf : {A : Type 0} (p q : A → Bool) (xs : List A) → allPass p (keepIf q xs) ≡ allPass (λ x. not (q x) || p x) xs
-allPass-keepIf p q [] = refl
-allPass-keepIf p q (x ∷ xs) = allPass-consIf p (q x) x (keepIf q xs) ∙ ap (λ (b : Bool). (not (q x) || p x) && b) (allPass-keepIf p q xs)
 
 -- each element that passes a test, as a list of its own
 concatMap-single : {A : Type 0} (p : A → Bool) (xs : List A) → concatMap (λ x. consIf (p x) x []) xs ≡ keepIf p xs

@@ -166,11 +166,15 @@ tupleLines ps = concatMap rowLine (tupleRows least (factsIn (wholeTable W) W) ps
 setAB : List Pattern
 setAB = triple (aVariable 0) (aTerm 20) (aTerm 21) ∷ triple (aVariable 0) (aTerm 10) (aVariable 1) ∷ []
 
--- how often a row stands among the solutions of that set over W: its first cells, the others being free, and its trust plus 1000
-solutions : List Cell → ℕ → List ℕ
-solutions cs t =
+-- two patterns that become one record
+setTwice : List Pattern
+setTwice = triple (aVariable 0) (aTerm 20) (aTerm 21) ∷ triple (aVariable 0) (aTerm 20) (aVariable 1) ∷ []
+
+-- how often a row stands among the solutions of a set over W: its first cells, the others being free, and its trust plus 1000
+solutions : List Pattern → List Cell → ℕ → List ℕ
+solutions ps cs t =
     let r : Row = record { cells = cs ++ replicate (16 - length cs) free; trust = known t } in
-    setCardinality least (factsIn (wholeTable W) W) setAB r ∷ []
+    setCardinality least (factsIn (wholeTable W) W) ps r ∷ []
 
 -- no row of A, and both, under a filter
 noRows : List ℕ
@@ -256,10 +260,13 @@ moreCases =
     ∷ (tupleLines setAB gives ascii "800 ?0=1 ?1=11\n200 ?0=1 ?1=12\n")
     ∷ (tupleLines (triple (aVariable 0) (aTerm 10) (aVariable 0) ∷ []) gives [])
     -- solutions: with the trust of the records once; with another trust, with a free variable, with one that stands nowhere, never
-    ∷ (solutions (term 1 ∷ term 11 ∷ []) 1800 gives 1 ∷ [])
-    ∷ (solutions (term 1 ∷ term 11 ∷ []) 1900 gives 0 ∷ [])
-    ∷ (solutions (term 1 ∷ []) 1800 gives 0 ∷ [])
-    ∷ (solutions (term 1 ∷ term 11 ∷ term 1 ∷ []) 1800 gives 0 ∷ [])
+    ∷ (solutions setAB (term 1 ∷ term 11 ∷ []) 1800 gives 1 ∷ [])
+    ∷ (solutions setAB (term 1 ∷ term 11 ∷ []) 1900 gives 0 ∷ [])
+    ∷ (solutions setAB (term 1 ∷ []) 1800 gives 0 ∷ [])
+    ∷ (solutions setAB (term 1 ∷ term 11 ∷ term 1 ∷ []) 1800 gives 0 ∷ [])
+    -- two patterns that become one record
+    ∷ (tupleLines setTwice gives ascii "800 ?0=1 ?1=21\n? ?0=2 ?1=21\n")
+    ∷ (solutions setTwice (term 1 ∷ term 21 ∷ []) 1800 gives 1 ∷ [])
     -- a variable that stands twice gets one term: {?0 10 ?0} has no row
     ∷ (W with hex "01 10 00 00 00 00 0A 10 00 00" prints ascii "rows 0 peak 0 pairs 0\n")
     -- a join: by the left row, then the right row
@@ -459,7 +466,7 @@ unfolding evaluated checked ceilings rewritten fields tallies noRows bothRows wo
 entries = tt
 
 sets : Unit {0}
-unfolding triple tupleLines setAB solutions tuples tupleRows
+unfolding triple tupleLines setAB setTwice solutions tuples tupleRows
 sets = tt
 
 groups : Unit {0}

@@ -28,6 +28,7 @@ pub mod Demand3
 -- The published algebra
 pub mod Cardinalities
 pub mod Solutions
+pub mod Published
 pub mod FreeVariables
 -- Text, and the table of cases
 pub mod TextLaws

@@ -32,9 +32,9 @@ pub or-right : (p q : Bool) → p || q ≡ true → p ≡ false → q ≡ true
 or-right true q e f = cc
 or-right false q e f = e
 
-pub and-swap : (a b c d : Bool) → (a && b) && (c && d) ≡ (a && c) && (b && d)
-and-swap true b c d = sym (and-assoc b c d) ∙ ap (λ (e : Bool). e && d) (and-comm b c) ∙ and-assoc c b d
-and-swap false b c d = refl
+pub and-interchange : (a b c d : Bool) → (a && b) && (c && d) ≡ (a && c) && (b && d)
+and-interchange true b c d = sym (and-assoc b c d) ∙ ap (λ (e : Bool). e && d) (and-comm b c) ∙ and-assoc c b d
+and-interchange false b c d = refl
 
 -- two tests are equal where each gives the other
 pub test-eq : (p q : Bool) → (p ≡ true → q ≡ true) → (q ≡ true → p ≡ true) → p ≡ q
@@ -111,7 +111,17 @@ module _ {A : Type 0} where
   -- two tests are one
   pub allPass-and : (p q : A → Bool) (xs : List A) → allPass (λ x. p x && q x) xs ≡ allPass p xs && allPass q xs
   allPass-and p q [] = refl
-  allPass-and p q (x ∷ xs) = rw (allPass-and p q xs) (and-swap (p x) (q x) (allPass p xs) (allPass q xs))
+  allPass-and p q (x ∷ xs) = rw (allPass-and p q xs) (and-interchange (p x) (q x) (allPass p xs) (allPass q xs))
+
+  allPass-consIf : (p : A → Bool) (b : Bool) (x : A) (xs : List A) → allPass p (consIf b x xs) ≡ (not b || p x) && allPass p xs
+  allPass-consIf p true x xs = refl
+  allPass-consIf p false x xs = refl
+
+  -- a test on those that pass another
+  pub allPass-keepIf : (p q : A → Bool) (xs : List A) → allPass p (keepIf q xs) ≡ allPass (λ x. not (q x) || p x) xs
+  allPass-keepIf p q [] = refl
+  allPass-keepIf p q (x ∷ xs) =
+      allPass-consIf p (q x) x (keepIf q xs) ∙ ap (λ (b : Bool). (not (q x) || p x) && b) (allPass-keepIf p q xs)
 
   pub anyPass-append : (p : A → Bool) (xs ys : List A) → anyPass p (xs ++ ys) ≡ anyPass p xs || anyPass p ys
   anyPass-append p [] ys = refl

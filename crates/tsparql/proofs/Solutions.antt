@@ -1,42 +1,38 @@
--- A pattern set over an accepted table lists every solution once and nothing else (`cardinality-set`), as Definition 2.3 of source
--- document 000 has it; with the operators' laws (Cardinalities) every node of a checked query has the published cardinalities
--- (`checked-published`). A row is listed as often as a tuple of records (Tuples) gives it. Groups: one variable; a tuple that gives the
--- cells; the only such tuple; pattern sets; what a solution sets; nodes. Assumes nothing.
+-- A pattern set over facts whose triples rise lists every solution once and nothing else (`cardinality-set`), as Definition 2.3 of source
+-- document 000 has it: a row is listed as often as a tuple of records (Tuples) gives it. Groups: one variable; a tuple that gives the
+-- cells; the only such tuple; pattern sets. What it means for the nodes of a query is in Published. Assumes nothing.
 use mathlib.Core.Path.{_≡_, refl, sym, ap, _∙_}
-use mathlib.Core.Bool.{Bool, true, false, _&&_, _||_, not, and-comm, and-assoc, or-assoc}
+use mathlib.Core.Bool.{Bool, true, false, _&&_, _||_, not, and-comm, and-assoc, and-self, or-assoc}
 use mathlib.Core.List.{List, [], _∷_, _++_, map}
-use Prim.Native.Nat.{ℕ, zero, suc, _+_, _≤_, _<_, zero-le}
+use Prim.Native.Nat.{ℕ, zero, suc, _≤_, _<_, zero-le}
 use native.Mathlib.Nat.{zero-add}
 use native.Mathlib.Omega.{arith}
 use lib.Dec.{eqb}
 use lib.ListN.{length}
 use borrow.Author.Tests.{eqb-true}
 use Rattle.tsparql.specs.Lists.{Every, consIf, onlyIf, keepIf, allPass, anyPass, concatMap}
-use Rattle.tsparql.specs.Values.{Cell, free, term, trusted, Row, cellAt, variables, isFree, sameTrust, sameCell}
+use Rattle.tsparql.specs.Values.{Trust, Cell, free, term, trusted, Row, cellAt, variables}
+use Rattle.tsparql.specs.Values.{isFree, sameTrust, sameCell}
 use Rattle.tsparql.specs.Query.{Slot, aTerm, aVariable, Pattern}
-use Rattle.tsparql.specs.Query.{Node, patternSet, join, leftJoin, union, filter, projectTrust, ensureTrust}
-use Rattle.tsparql.specs.Table.{Fact, wholeTable, factsIn}
-use Rattle.tsparql.specs.PatternSets.{Aggregate, setRows, rowsOver}
-use Rattle.tsparql.specs.Rows.{rowsOf}
-use Rattle.tsparql.specs.Tuples.{tuples, Place, places, termStands, termsStand, isVariable, termsFor}
-use Rattle.tsparql.specs.Tuples.{allSame, fits, firstTerm, placedCells, tupleRow, tupleRows}
-use Rattle.tsparql.specs.Reading.{queryNode}
-use Rattle.tsparql.specs.WellFormed.{SlotFormed, PatternFormed, NodeFormed}
-use Rattle.tsparql.specs.Check.{Passes, slotVariables, variablesOf, evaluateLimit, check}
-use Rattle.tsparql.specs.Cardinality.{sameCells, sameRow, cardinality, countIf, slotCell, becomes, isRecord, isSolution, subgraph}
-use Rattle.tsparql.specs.Cardinality.{setCardinality, publishedCardinality, Published, EveryNode}
-use Rattle.tsparql.proofs.ListLaws.{and-left, and-right, and-swap, test-eq, every-of, every-weaken, every-append}
+use Rattle.tsparql.specs.Table.{Fact}
+use Rattle.tsparql.specs.PatternSets.{Aggregate, setRows}
+use Rattle.tsparql.specs.Tuples.{tuples, FilledSlot, filledSlots, termStands, termsStand, isVariable, termsFor}
+use Rattle.tsparql.specs.Tuples.{allSame, fits, firstTerm, filledCells, tupleRow, tupleRows}
+use Rattle.tsparql.specs.Check.{slotVariables, variablesOf}
+use Rattle.tsparql.specs.Cardinality.{sameCells, sameRow, cardinality, countIf}
+use Rattle.tsparql.specs.Cardinality.{slotCell, becomes, becomesRecord, isSolution, subgraph}
+use Rattle.tsparql.specs.Cardinality.{setCardinality, SameRecords, SetAggregate}
+use Rattle.tsparql.proofs.ListLaws.{and-left, and-right, and-interchange, test-eq, every-of, every-weaken}
 use Rattle.tsparql.proofs.ListLaws.{every-parts, every-map, every-concatMap}
-use Rattle.tsparql.proofs.ListLaws.{allPass-every, allPass-passes, allPass-cong, allPass-and, allPass-only, anyPass-append}
+use Rattle.tsparql.proofs.ListLaws.{allPass-every, allPass-passes, allPass-cong}
+use Rattle.tsparql.proofs.ListLaws.{allPass-append, allPass-and, allPass-only, allPass-keepIf}
+use Rattle.tsparql.proofs.ListLaws.{anyPass-append}
 use Rattle.tsparql.proofs.ListLaws.{keepIf-keepIf, keepIf-cong, keepIf-and, keepIf-none, keepIf-map}
 use Rattle.tsparql.proofs.ListLaws.{keepIf-concatMap, concatMap-same, map-cong, map-onlyIf, getD-map-upFrom}
-use Rattle.tsparql.proofs.TableLaws.{Rising, key, factsIn-rising}
-use Rattle.tsparql.proofs.QueryLaws.{check-parts, query-checked}
+use Rattle.tsparql.proofs.TableLaws.{Rising, key}
 use Rattle.tsparql.proofs.ChoiceLaws.{every-slot}
 use Rattle.tsparql.proofs.TupleLaws.{below16, map-cellAt, setRows-tuples}
 use Rattle.tsparql.proofs.Cardinalities.{sameCell-true, sameCell-refl, sameCells-true, sameCells-refl, cardinality-map}
-use Rattle.tsparql.proofs.Cardinalities.{cardinality-join, cardinality-leftJoin, cardinality-union, cardinality-filter}
-use Rattle.tsparql.proofs.Cardinalities.{cardinality-project, cardinality-ensure}
 
 -- ---- one variable
 
@@ -63,15 +59,15 @@ allSame-cell c (b ∷ bs) = at (sameCell c (term b)) refl
 -- ---- a tuple that gives the cells
 
 -- the slot's cell is the record's term
-abbrev says : List Cell → Place → Bool
+abbrev says : List Cell → FilledSlot → Bool
 says cs x = sameCell (slotCell cs (x .slot)) (term (x .value))
 
--- the places whose variables are below 16
-abbrev InRange : List Place → Type 0
-InRange xs = Every (λ x. Every (λ v. v < 16) (slotVariables (x .slot))) xs
+-- the slots whose variables are below 16
+abbrev SlotsInRange : List FilledSlot → Type 0
+SlotsInRange xs = Every (λ x. Every (λ v. v < 16) (slotVariables (x .slot))) xs
 
 -- every cell is each of the terms that its variable gets
-abbrev haveTerms : List Cell → List Place → Bool
+abbrev haveTerms : List Cell → List FilledSlot → Bool
 haveTerms cs xs = allPass (λ v. hasTerms (cellAt cs v) (termsFor v xs)) variables
 
 -- a term more for the variable w, and what it asks of the variable v
@@ -86,7 +82,7 @@ hasTerms-more cs w b v bs = at (eqb v w) refl
     at false e = refl
 
 -- by slots or by variables, it is the same that is asked
-says-terms : (cs : List Cell) (xs : List Place) → InRange xs → haveTerms cs xs && termsStand xs ≡ allPass (says cs) xs
+says-terms : (cs : List Cell) (xs : List FilledSlot) → SlotsInRange xs → haveTerms cs xs && termsStand xs ≡ allPass (says cs) xs
 says-terms cs [] h = refl
 says-terms cs (x ∷ xs) h = at (x .slot) (x .value) (h .0) (says-terms cs xs (h .1))
   where
@@ -94,7 +90,7 @@ says-terms cs (x ∷ xs) h = at (x .slot) (x .value) (h .0) (says-terms cs xs (h
         → allPass (λ v. hasTerms (cellAt cs v) (onlyIf (isVariable v s) (b ∷ []) ++ termsFor v xs)) variables
         && (termStands s b && termsStand xs)
         ≡ sameCell (slotCell cs s) (term b) && allPass (says cs) xs
-    at (aTerm a) b k later = rw (← later) (and-swap true (haveTerms cs xs) (eqb a b) (termsStand xs))
+    at (aTerm a) b k later = rw (← later) (and-interchange true (haveTerms cs xs) (eqb a b) (termsStand xs))
     at (aVariable w) b k later =
         rw (← later)
         (ap (λ (t : Bool). t && termsStand xs)
@@ -133,15 +129,15 @@ sameCells-variables cs f = test-eq _ _ forth back
         rw (← same) (sameCells-refl cs)
 
 -- only variables with a term are set
-abbrev onlySet : List Cell → List Place → Bool
+abbrev onlySet : List Cell → List FilledSlot → Bool
 onlySet cs xs = allPass (λ v. isFree (cellAt cs v) || some (termsFor v xs)) variables
 
 -- a tuple fits and gives the cells just where the cells say its terms, and are free where it has none
-fits-says : (cs : List Cell) (xs : List Place) → InRange xs
-    → fits xs && sameCells cs (placedCells xs) ≡ (eqb (length cs) 16 && onlySet cs xs) && allPass (says cs) xs
+fits-says : (cs : List Cell) (xs : List FilledSlot) → SlotsInRange xs
+    → fits xs && sameCells cs (filledCells xs) ≡ (eqb (length cs) 16 && onlySet cs xs) && allPass (says cs) xs
 fits-says cs xs h =
     ap (λ (t : Bool). fits xs && t) (sameCells-variables cs (λ v. firstTerm (termsFor v xs)))
-    ∙ and-swap (termsStand xs) one long gave
+    ∙ and-interchange (termsStand xs) one long gave
     ∙ ap (λ (t : Bool). (termsStand xs && long) && t)
     (sym (allPass-and (λ v. allSame (termsFor v xs)) (λ v. sameCell (cellAt cs v) (firstTerm (termsFor v xs))) variables)
     ∙ allPass-cong (λ v. allSame (termsFor v xs) && sameCell (cellAt cs v) (firstTerm (termsFor v xs)))
@@ -150,7 +146,7 @@ fits-says cs xs h =
     ∙ allPass-and (λ v. hasTerms (cellAt cs v) (termsFor v xs)) (λ v. isFree (cellAt cs v) || some (termsFor v xs)) variables
     ∙ and-comm (haveTerms cs xs) (onlySet cs xs))
     ∙ ap (λ (t : Bool). t && (onlySet cs xs && haveTerms cs xs)) (and-comm (termsStand xs) long)
-    ∙ and-swap long (termsStand xs) (onlySet cs xs) (haveTerms cs xs)
+    ∙ and-interchange long (termsStand xs) (onlySet cs xs) (haveTerms cs xs)
     ∙ ap (λ (t : Bool). (long && onlySet cs xs) && t) (and-comm (termsStand xs) (haveTerms cs xs) ∙ says-terms cs xs h)
   where
     one : Bool
@@ -179,7 +175,7 @@ slot-some v (aVariable w) b = at (eqb v w)
 
 -- a variable gets a term just where it stands in the patterns
 termsFor-some : (v : ℕ) (ps : List Pattern) (us : List Fact) → length us ≡ length ps
-    → some (termsFor v (places ps us)) ≡ anyPass (eqb v) (concatMap variablesOf ps)
+    → some (termsFor v (filledSlots ps us)) ≡ anyPass (eqb v) (concatMap variablesOf ps)
 termsFor-some v [] us e = refl
 termsFor-some v (p ∷ ps) [] e = absurd (omega arith)
 termsFor-some v (p ∷ ps) (f ∷ us) e = at (termsFor-some v ps us (omega arith))
@@ -191,13 +187,13 @@ termsFor-some v (p ∷ ps) (f ∷ us) e = at (termsFor-some v ps us (omega arith
     stands s = anyPass (eqb v) (slotVariables s)
 
     rest : List ℕ
-    rest = termsFor v (places ps us)
+    rest = termsFor v (filledSlots ps us)
 
     others : Bool
     others = anyPass (eqb v) (concatMap variablesOf ps)
 
     at : some rest ≡ anyPass (eqb v) (concatMap variablesOf ps)
-        → some (termsFor v (places (p ∷ ps) (f ∷ us))) ≡ anyPass (eqb v) (variablesOf p ++ concatMap variablesOf ps)
+        → some (termsFor v (filledSlots (p ∷ ps) (f ∷ us))) ≡ anyPass (eqb v) (variablesOf p ++ concatMap variablesOf ps)
     at later =
         let vs = slotVariables (p .predicate) ++ slotVariables (p .object) in
         rw (
@@ -239,7 +235,7 @@ keepIf-once {A = A} k p (x ∷ xs) same r = at (p x) refl (keepIf-once k p xs sa
     at false e h = h
 
 -- the slots of a pattern that becomes the triple of a fact
-becomes-parts : (cs : List Cell) (p : Pattern) (f : Fact) → becomes cs p f ≡ true
+pub becomes-parts : (cs : List Cell) (p : Pattern) (f : Fact) → becomes cs p f ≡ true
     → (sameCell (slotCell cs (p .subject)) (term (f .subject)) ≡ true)
     × (sameCell (slotCell cs (p .predicate)) (term (f .predicate)) ≡ true) × (sameCell (slotCell cs (p .object)) (term (f .object)) ≡ true)
 becomes-parts cs p f h =
@@ -297,10 +293,14 @@ some-keepIf p (x ∷ xs) = at (p x) (some-keepIf p xs)
     at true e = refl
     at false e = e
 
+-- the records that the patterns become, pattern by pattern
+abbrev instances : List Fact → List Pattern → List Cell → List Fact
+instances fs ps cs = concatMap (λ p. keepIf (becomes cs p) fs) ps
+
 -- of all tuples, at most one gives every pattern the record that it becomes
 tuples-says : (fs : List Fact) (cs : List Cell) → Rising key fs → (ps : List Pattern)
-    → keepIf (λ us. allPass (says cs) (places ps us)) (tuples fs (length ps))
-    ≡ onlyIf (allPass (isRecord fs cs) ps) (subgraph fs ps cs ∷ [])
+    → keepIf (λ us. allPass (says cs) (filledSlots ps us)) (tuples fs (length ps))
+    ≡ onlyIf (allPass (becomesRecord fs cs) ps) (instances fs ps cs ∷ [])
 unfolding tuples
 tuples-says fs cs r [] = refl
 tuples-says fs cs r (p ∷ ps) =
@@ -315,30 +315,30 @@ tuples-says fs cs r (p ∷ ps) =
     later = tuples fs (length ps)
 
     test : List Fact → Bool
-    test us = allPass (says cs) (places (p ∷ ps) us)
+    test us = allPass (says cs) (filledSlots (p ∷ ps) us)
 
     all : Bool
-    all = allPass (isRecord fs cs) ps
+    all = allPass (becomesRecord fs cs) ps
 
     rest : List Fact
-    rest = subgraph fs ps cs
+    rest = instances fs ps cs
 
     -- a tuple passes where its first record does, and then the others
-    onFirst : (f : Fact) (us : List Fact) → test (f ∷ us) ≡ becomes cs p f && allPass (says cs) (places ps us)
+    onFirst : (f : Fact) (us : List Fact) → test (f ∷ us) ≡ becomes cs p f && allPass (says cs) (filledSlots ps us)
     onFirst f us =
         let one = sameCell (slotCell cs (p .subject)) (term (f .subject)) in
         let two = sameCell (slotCell cs (p .predicate)) (term (f .predicate)) in
         let three = sameCell (slotCell cs (p .object)) (term (f .object)) in
-        let others = allPass (says cs) (places ps us) in
+        let others = allPass (says cs) (filledSlots ps us) in
         sym (and-assoc one two (three && others)) ∙ sym (and-assoc (one && two) three others)
 
-    byFact : (f : Fact) → keepIf (λ us. allPass (says cs) (places ps us)) later ≡ onlyIf all (rest ∷ [])
+    byFact : (f : Fact) → keepIf (λ us. allPass (says cs) (filledSlots ps us)) later ≡ onlyIf all (rest ∷ [])
         → keepIf test (map (λ us. f ∷ us) later) ≡ onlyIf (becomes cs p f) (onlyIf all ((f ∷ rest) ∷ []))
     byFact f e =
         keepIf-map test (λ us. f ∷ us) later
         ∙ ap (map (λ us. f ∷ us))
-        (keepIf-cong _ (λ us. becomes cs p f && allPass (says cs) (places ps us)) later (every-of (onFirst f) later)
-        ∙ keepIf-and (becomes cs p f) (λ us. allPass (says cs) (places ps us)) later
+        (keepIf-cong _ (λ us. becomes cs p f && allPass (says cs) (filledSlots ps us)) later (every-of (onFirst f) later)
+        ∙ keepIf-and (becomes cs p f) (λ us. allPass (says cs) (filledSlots ps us)) later
         ∙ ap (onlyIf (becomes cs p f)) e)
         ∙ map-onlyIf (λ us. f ∷ us) (becomes cs p f) (onlyIf all (rest ∷ []))
         ∙ ap (onlyIf (becomes cs p f)) (map-onlyIf (λ us. f ∷ us) all (rest ∷ []))
@@ -350,14 +350,14 @@ tuples-says fs cs r (p ∷ ps) =
 
 -- ---- pattern sets
 
--- the variables of the places are those of the patterns
-places-inRange : (ps : List Pattern) (us : List Fact) → Every (λ v. v < 16) (concatMap variablesOf ps) → InRange (places ps us)
-places-inRange [] us h = tt
-places-inRange (p ∷ ps) [] h = tt
-places-inRange (p ∷ ps) (f ∷ us) h =
+-- the variables of the slots are those of the patterns
+slots-inRange : (ps : List Pattern) (us : List Fact) → Every (λ v. v < 16) (concatMap variablesOf ps) → SlotsInRange (filledSlots ps us)
+slots-inRange [] us h = tt
+slots-inRange (p ∷ ps) [] h = tt
+slots-inRange (p ∷ ps) (f ∷ us) h =
     let parts = every-parts (λ v. v < 16) (variablesOf p) (concatMap variablesOf ps) h in
     let slots = every-slot (λ v. v < 16) p (parts .0) in
-    (slots .0, (slots .1, (slots .2, places-inRange ps us (parts .1))))
+    (slots .0, (slots .1, (slots .2, slots-inRange ps us (parts .1))))
 
 -- how many elements pass four tests, the last of which looks at the element, of one element or none
 length-one : {A : Type 0} (l o b : Bool) (p : A → Bool) (x : A)
@@ -372,11 +372,34 @@ length-one true true false p x = refl
 length-one true false true p x = refl
 length-one true false false p x = refl
 
+-- a test on what passes one of two
+allPass-either : {A : Type 0} (q a b : A → Bool) (xs : List A)
+    → allPass q (keepIf (λ x. a x || b x) xs) ≡ allPass q (keepIf a xs) && allPass q (keepIf b xs)
+allPass-either q a b xs =
+    allPass-keepIf q (λ x. a x || b x) xs
+    ∙ allPass-cong (λ x. not (a x || b x) || q x) (λ x. (not (a x) || q x) && (not (b x) || q x)) xs
+    (every-of (λ x. at (a x) (b x) (q x)) xs)
+    ∙ allPass-and (λ x. not (a x) || q x) (λ x. not (b x) || q x) xs
+    ∙ sym (rw (allPass-keepIf q a xs, allPass-keepIf q b xs))
+  where
+    at : (a b q : Bool) → not (a || b) || q ≡ (not a || q) && (not b || q)
+    at true true q = sym (and-self q)
+    at true false q = and-comm true q
+    at false b q = refl
+
+-- pattern by pattern they are the records of the subgraph
+instances-subgraph : (fs : List Fact) (ps : List Pattern) (cs : List Cell) → SameRecords (instances fs ps cs) (subgraph fs ps cs)
+instances-subgraph fs [] cs q = sym (ap (allPass q) (keepIf-none (λ f. false) fs (every-of (λ f. refl) fs)))
+instances-subgraph fs (p ∷ ps) cs q =
+    allPass-append q (keepIf (becomes cs p) fs) (instances fs ps cs)
+    ∙ ap (λ (t : Bool). allPass q (keepIf (becomes cs p) fs) && t) (instances-subgraph fs ps cs q)
+    ∙ sym (allPass-either q (becomes cs p) (λ f. anyPass (λ r. becomes cs r f) ps) fs)
+
 -- over facts whose triples rise, a pattern set lists every solution once, and nothing else
-pub cardinality-set : (g : Aggregate) (fs : List Fact) → Rising key fs → (ps : List Pattern)
+pub cardinality-set : (g : Aggregate) → SetAggregate g → (fs : List Fact) → Rising key fs → (ps : List Pattern)
     → Every (λ v. v < 16) (concatMap variablesOf ps) → (r : Row) → cardinality (setRows g fs ps) r ≡ setCardinality g fs ps r
 unfolding tupleRows
-cardinality-set g fs k ps h r =
+cardinality-set g set fs k ps h r =
     ap (λ (xs : List Row). cardinality xs r) (setRows-tuples g fs ps)
     ∙ cardinality-map (tupleRow g ps) (keepIf fit all) r
     ∙ ap length
@@ -385,13 +408,15 @@ cardinality-set g fs k ps h r =
     (every-weaken at all (tuples-length fs (length ps)))
     ∙ sym (keepIf-keepIf trusts (λ us. (long && others) && said us) all)
     ∙ ap (keepIf trusts) (keepIf-and (long && others) said all ∙ ap (onlyIf (long && others)) (tuples-says fs (r .cells) k ps)))
-    ∙ length-one long others (allPass (isRecord fs (r .cells)) ps) trusts (subgraph fs ps (r .cells))
+    ∙ length-one long others (allPass (becomesRecord fs (r .cells)) ps) trusts (instances fs ps (r .cells))
+    ∙ ap (λ (t : Trust). countIf (isSolution fs ps (r .cells) && sameTrust (r .trust) t) 1)
+    (set (instances fs ps (r .cells)) (subgraph fs ps (r .cells)) (instances-subgraph fs ps (r .cells)))
   where
     all : List (List Fact)
     all = tuples fs (length ps)
 
     fit : List Fact → Bool
-    fit us = fits (places ps us)
+    fit us = fits (filledSlots ps us)
 
     long : Bool
     long = eqb (length (r .cells)) 16
@@ -400,7 +425,7 @@ cardinality-set g fs k ps h r =
     others = allPass (λ v. isFree (cellAt (r .cells) v) || anyPass (eqb v) (concatMap variablesOf ps)) variables
 
     said : List Fact → Bool
-    said us = allPass (says (r .cells)) (places ps us)
+    said us = allPass (says (r .cells)) (filledSlots ps us)
 
     trusts : List Fact → Bool
     trusts us = sameTrust (r .trust) (g us)
@@ -408,100 +433,10 @@ cardinality-set g fs k ps h r =
     at : (us : List Fact) → length us ≡ length ps
         → fit us && sameRow r (tupleRow g ps us) ≡ ((long && others) && said us) && trusts us
     at us e =
-        sym (and-assoc (fit us) (sameCells (r .cells) (placedCells (places ps us))) (trusts us))
+        sym (and-assoc (fit us) (sameCells (r .cells) (filledCells (filledSlots ps us))) (trusts us))
         ∙ ap (λ (t : Bool). t && trusts us)
-        (fits-says (r .cells) (places ps us) (places-inRange ps us h)
+        (fits-says (r .cells) (filledSlots ps us) (slots-inRange ps us h)
         ∙ ap (λ (t : Bool). (long && t) && said us)
-        (allPass-cong (λ v. isFree (cellAt (r .cells) v) || some (termsFor v (places ps us)))
+        (allPass-cong (λ v. isFree (cellAt (r .cells) v) || some (termsFor v (filledSlots ps us)))
         (λ v. isFree (cellAt (r .cells) v) || anyPass (eqb v) (concatMap variablesOf ps)) variables
         (every-of (λ v. ap (λ (t : Bool). isFree (cellAt (r .cells) v) || t) (termsFor-some v ps us e)) variables)))
-
--- ---- what a solution sets
-
--- the variable is set
-abbrev IsSet : List Cell → ℕ → Type 0
-IsSet cs v = isFree (cellAt cs v) ≡ false
-
-becomes-set : (cs : List Cell) (p : Pattern) (f : Fact) → becomes cs p f ≡ true → Every (IsSet cs) (variablesOf p)
-becomes-set cs p f h =
-    let parts = becomes-parts cs p f h in
-    every-append (IsSet cs) (slotVariables (p .subject)) _ (slot (p .subject) (f .subject) (parts .0))
-    (every-append (IsSet cs) (slotVariables (p .predicate)) _ (slot (p .predicate) (f .predicate) (parts .1))
-    (slot (p .object) (f .object) (parts .2)))
-  where
-    slot : (s : Slot) (b : ℕ) → sameCell (slotCell cs s) (term b) ≡ true → Every (IsSet cs) (slotVariables s)
-    slot (aTerm a) b e = tt
-    slot (aVariable v) b e = (ap isFree (sameCell-true (cellAt cs v) (term b) e), tt)
-
--- what one element that passes gives
-anyPass-gives : {A : Type 0} (C : Type 0) (p : A → Bool) (xs : List A) → ((x : A) → p x ≡ true → C) → anyPass p xs ≡ true → C
-anyPass-gives C p [] h e = absurd (let z : _≡_ {A = ℕ} 0 1 = cc in omega arith)
-anyPass-gives C p (x ∷ xs) h e = at (p x) refl e (anyPass-gives C p xs h)
-  where
-    at : (t : Bool) → p x ≡ t → t || anyPass p xs ≡ true → (anyPass p xs ≡ true → C) → C
-    at true d e k = h x d
-    at false d e k = k e
-
--- a solution sets every variable of the patterns
-pub solution-set : (fs : List Fact) (ps : List Pattern) (cs : List Cell) → isSolution fs ps cs ≡ true
-    → Every (IsSet cs) (concatMap variablesOf ps)
-solution-set fs ps cs e =
-    every-concatMap (IsSet cs) variablesOf ps
-    (every-weaken (λ p k. anyPass-gives (Every (IsSet cs) (variablesOf p)) (becomes cs p) fs (becomes-set cs p) k) ps
-    (allPass-passes (isRecord fs cs) ps (and-right (eqb (length cs) 16) _ (and-left _ _ e))))
-
--- ---- nodes
-
--- the variables of a well-formed pattern are below 16
-formed-variables : (p : Pattern) → PatternFormed p → Every (λ v. v < 16) (variablesOf p)
-formed-variables p h =
-    let second = slotVariables (p .predicate) in
-    let third = slotVariables (p .object) in
-    every-append (λ v. v < 16) (slotVariables (p .subject)) (second ++ third) (slot (p .subject) (h .0))
-    (every-append (λ v. v < 16) second third (slot (p .predicate) (h .1)) (slot (p .object) (h .2)))
-  where
-    slot : (s : Slot) → SlotFormed s → Every (λ v. v < 16) (slotVariables s)
-    slot (aTerm a) k = tt
-    slot (aVariable v) k = (k, tt)
-
--- how often a row stands among the rows of a well-formed node is the published cardinality, over facts whose triples rise
-pub cardinality-published : (g : Aggregate) (fs : List Fact) → Rising key fs → (q : Node) → NodeFormed q → Published g fs q
-unfolding rowsOf publishedCardinality
-cardinality-published g fs k (patternSet ps) h r =
-    cardinality-set g fs k ps (every-concatMap (λ v. v < 16) variablesOf ps (every-weaken formed-variables ps (h .1))) r
-cardinality-published g fs k (join x y) h r = cardinality-join (rowsOver g fs x) (rowsOver g fs y) r
-cardinality-published g fs k (leftJoin c x y) h r = cardinality-leftJoin c (rowsOver g fs x) (rowsOver g fs y) r
-cardinality-published g fs k (union x y) h r = cardinality-union (rowsOver g fs x) (rowsOver g fs y) r
-cardinality-published g fs k (filter c x) h r = cardinality-filter c (rowsOver g fs x) r
-cardinality-published g fs k (projectTrust v x) h r = cardinality-project v (rowsOver g fs x) r
-cardinality-published g fs k (ensureTrust l u x) h r = cardinality-ensure l u (rowsOver g fs x) r
-
--- and so it is at every node in it
-formed-published : (g : Aggregate) (fs : List Fact) → Rising key fs → (q : Node) → NodeFormed q → EveryNode (Published g fs) q
-formed-published g fs k (patternSet ps) h = cardinality-published g fs k (patternSet ps) h
-formed-published g fs k (join x y) h = (
-  cardinality-published g fs k (join x y) h,
-  formed-published g fs k x (h .0),
-  formed-published g fs k y (h .1),
-)
-formed-published g fs k (leftJoin c x y) h = (
-  cardinality-published g fs k (leftJoin c x y) h,
-  formed-published g fs k x (h .1),
-  formed-published g fs k y (h .2),
-)
-formed-published g fs k (union x y) h = (
-  cardinality-published g fs k (union x y) h,
-  formed-published g fs k x (h .0),
-  formed-published g fs k y (h .1),
-)
-formed-published g fs k (filter c x) h = (cardinality-published g fs k (filter c x) h, formed-published g fs k x (h .1))
-formed-published g fs k (projectTrust v x) h = (cardinality-published g fs k (projectTrust v x) h, formed-published g fs k x (h .1))
-formed-published g fs k (ensureTrust l u x) h = (cardinality-published g fs k (ensureTrust l u x) h, formed-published g fs k x (h .2))
-
--- over a table and a query that pass the check, the rows of every node of the query have the published cardinalities
-pub checked-published : (g : Aggregate) (t s : List ℕ) → Passes (check t s)
-    → EveryNode (Published g (factsIn (wholeTable t) t)) (queryNode s)
-checked-published g t s z =
-    let both = check-parts t s z in
-    formed-published g (factsIn (wholeTable t) t) (factsIn-rising t (both .0)) (queryNode s)
-    (query-checked evaluateLimit s (both .1) .formed)

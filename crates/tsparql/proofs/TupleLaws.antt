@@ -1,5 +1,5 @@
 -- A pattern set lists the rows that document 01 says (specs/Tuples.antt), theorem setRows-tuples: for all patterns and facts. In order:
--- the choices are the tuples whose places fit in turn; whether they do is told by the terms of each variable alone; and so are the
+-- the choices are the tuples whose slots fit in turn; whether they do is told by the terms of each variable alone; and so are the
 -- cells that they leave. Assumes nothing.
 use mathlib.Core.Path.{_≡_, refl, sym, ap, _∙_}
 use mathlib.Core.Bool.{Bool, true, false, _&&_, _||_, not, and-comm, and-assoc, or-true}
@@ -17,8 +17,8 @@ use Rattle.tsparql.specs.Query.{Slot, aTerm, aVariable, Pattern}
 use Rattle.tsparql.specs.Table.{Fact}
 use Rattle.tsparql.specs.PatternSets.{slotFits, bindSlot, bindPattern, matches, Choice, withFact, choices}
 use Rattle.tsparql.specs.PatternSets.{Aggregate, choiceRow, setRows}
-use Rattle.tsparql.specs.Tuples.{tuples, Place, patternPlaces, places, termStands, termsStand, isVariable, termsFor}
-use Rattle.tsparql.specs.Tuples.{allSame, fits, firstTerm, placedCells, tupleRow, tupleRows}
+use Rattle.tsparql.specs.Tuples.{tuples, FilledSlot, patternSlots, filledSlots, termStands, termsStand, isVariable, termsFor}
+use Rattle.tsparql.specs.Tuples.{allSame, fits, firstTerm, filledCells, tupleRow, tupleRows}
 use Rattle.tsparql.proofs.ListLaws.{and-left, and-right, every-of, every-weaken, every-upFrom}
 use Rattle.tsparql.proofs.ListLaws.{allPass-every, allPass-passes, allPass-cong, allPass-and, allPass-only}
 use Rattle.tsparql.proofs.ListLaws.{keepIf-passes, keepIf-cong, keepIf-and, map-onlyIf, keepIf-map}
@@ -28,24 +28,24 @@ use Rattle.tsparql.proofs.ChoiceLaws.{choicesBy}
 -- ---- the choices, by tuples
 
 -- the terms fit their slots one after the other, given the cells that are set
-abbrev fitInTurn : List Place → List Cell → Bool
+abbrev fitInTurn : List FilledSlot → List Cell → Bool
 fitInTurn [] cs = true
 fitInTurn (x ∷ xs) cs = slotFits (x .slot) (x .value) cs && fitInTurn xs (bindSlot (x .slot) (x .value) cs)
 
 -- the cells that they leave
-abbrev bindInTurn : List Place → List Cell → List Cell
+abbrev bindInTurn : List FilledSlot → List Cell → List Cell
 bindInTurn [] cs = cs
 bindInTurn (x ∷ xs) cs = bindInTurn xs (bindSlot (x .slot) (x .value) cs)
 
 -- the choice that a tuple makes
 abbrev tupleChoice : List Pattern → List Cell → List Fact → Choice
-tupleChoice ps cs us = record { cells = bindInTurn (places ps us) cs; used = us }
+tupleChoice ps cs us = record { cells = bindInTurn (filledSlots ps us) cs; used = us }
 
 -- a pattern that matches is three slots that fit in turn
-matches-places : (p : Pattern) (f : Fact) (xs : List Place) (cs : List Cell)
-    → fitInTurn (patternPlaces p f ++ xs) cs ≡ matches p f cs && fitInTurn xs (bindPattern p f cs)
+matches-filled : (p : Pattern) (f : Fact) (xs : List FilledSlot) (cs : List Cell)
+    → fitInTurn (patternSlots p f ++ xs) cs ≡ matches p f cs && fitInTurn xs (bindPattern p f cs)
 unfolding matches bindPattern
-matches-places p f xs cs =
+matches-filled p f xs cs =
     sym (and-assoc one two (three && rest)) ∙ sym (and-assoc (one && two) three rest)
   where
     first : List Cell
@@ -66,9 +66,9 @@ matches-places p f xs cs =
     rest : Bool
     rest = fitInTurn xs (bindSlot (p .object) (f .object) second)
 
--- the choices are those of the tuples whose places fit in turn
+-- the choices are those of the tuples whose slots fit in turn
 choices-tuples : (fs : List Fact) (ps : List Pattern) (cs : List Cell)
-    → choices fs ps cs ≡ map (tupleChoice ps cs) (keepIf (λ us. fitInTurn (places ps us) cs) (tuples fs (length ps)))
+    → choices fs ps cs ≡ map (tupleChoice ps cs) (keepIf (λ us. fitInTurn (filledSlots ps us) cs) (tuples fs (length ps)))
 unfolding choices tuples bindPattern
 choices-tuples fs [] cs = refl
 choices-tuples fs (p ∷ ps) cs =
@@ -84,18 +84,19 @@ choices-tuples fs (p ∷ ps) cs =
     made us = tupleChoice (p ∷ ps) cs us
 
     fit : List Fact → Bool
-    fit us = fitInTurn (places (p ∷ ps) us) cs
+    fit us = fitInTurn (filledSlots (p ∷ ps) us) cs
 
     byFact : (f : Fact)
         → choices fs ps (bindPattern p f cs)
-        ≡ map (tupleChoice ps (bindPattern p f cs)) (keepIf (λ us. fitInTurn (places ps us) (bindPattern p f cs)) later)
+        ≡ map (tupleChoice ps (bindPattern p f cs)) (keepIf (λ us. fitInTurn (filledSlots ps us) (bindPattern p f cs)) later)
         → choicesBy fs p ps cs f ≡ map made (keepIf fit (map (λ us. f ∷ us) later))
     byFact f e =
         rw e
         (ap (onlyIf m) (map-map (withFact f) (tupleChoice ps after) (keepIf test later))
         ∙ sym (map-onlyIf (λ us. made (f ∷ us)) m (keepIf test later))
         ∙ ap (map (λ us. made (f ∷ us))) (sym (keepIf-and m test later)
-        ∙ keepIf-cong (λ us. m && test us) (λ us. fit (f ∷ us)) later (every-of (λ us. sym (matches-places p f (places ps us) cs)) later))
+        ∙ keepIf-cong (λ us. m && test us) (λ us. fit (f ∷ us)) later
+        (every-of (λ us. sym (matches-filled p f (filledSlots ps us) cs)) later))
         ∙ sym (map-map made (λ us. f ∷ us) (keepIf (λ us. fit (f ∷ us)) later))
         ∙ ap (map made) (sym (keepIf-map fit (λ us. f ∷ us) later)))
       where
@@ -106,32 +107,32 @@ choices-tuples fs (p ∷ ps) cs =
         m = matches p f cs
 
         test : List Fact → Bool
-        test us = fitInTurn (places ps us) after
+        test us = fitInTurn (filledSlots ps us) after
 
 -- ---- one variable
 
--- the terms stand in a cell one after the other
-abbrev follow : Cell → List ℕ → Bool
-follow c [] = true
-follow c (b ∷ bs) = agree c (term b) && follow (term b) bs
+-- a cell accepts the terms one after the other
+abbrev accepts : Cell → List ℕ → Bool
+accepts c [] = true
+accepts c (b ∷ bs) = agree c (term b) && accepts (term b) bs
 
 -- the cell that they leave
 abbrev last : Cell → List ℕ → Cell
 last c [] = c
 last c (b ∷ bs) = last (term b) bs
 
-follow-term : (a : ℕ) (bs : List ℕ) → follow (term a) bs ≡ allPass (eqb a) bs
-follow-term a [] = refl
-follow-term a (b ∷ bs) = at (eqb a b) refl (follow-term b bs)
+accepts-term : (a : ℕ) (bs : List ℕ) → accepts (term a) bs ≡ allPass (eqb a) bs
+accepts-term a [] = refl
+accepts-term a (b ∷ bs) = at (eqb a b) refl (accepts-term b bs)
   where
-    at : (t : Bool) → eqb a b ≡ t → follow (term b) bs ≡ allPass (eqb b) bs → t && follow (term b) bs ≡ t && allPass (eqb a) bs
+    at : (t : Bool) → eqb a b ≡ t → accepts (term b) bs ≡ allPass (eqb b) bs → t && accepts (term b) bs ≡ t && allPass (eqb a) bs
     at true e h = h ∙ ap (λ (c : ℕ). allPass (eqb c) bs) (sym (eqb-true a b e))
     at false e h = refl
 
 -- from a free cell on: one term
-follow-free : (bs : List ℕ) → follow free bs ≡ allSame bs
-follow-free [] = refl
-follow-free (b ∷ bs) = follow-term b bs
+accepts-free : (bs : List ℕ) → accepts free bs ≡ allSame bs
+accepts-free [] = refl
+accepts-free (b ∷ bs) = accepts-term b bs
 
 last-term : (a : ℕ) (bs : List ℕ) → allPass (eqb a) bs ≡ true → last (term a) bs ≡ term a
 last-term a [] e = refl
@@ -158,11 +159,12 @@ module _ (cs : List Cell) (l : length cs ≡ 16) (w b v : ℕ) (h : v < 16) (bs 
   there : eqb v w ≡ false → after ≡ cellAt cs v
   there e = getD-set-other cs w v (term b) free (eqb-false v w e)
 
-  follow-set : follow (cellAt cs v) (onlyIf (eqb v w) (b ∷ []) ++ bs) ≡ (not (eqb v w) || agree (cellAt cs w) (term b)) && follow after bs
-  follow-set = at (eqb v w) refl
+  accepts-set : accepts (cellAt cs v) (onlyIf (eqb v w) (b ∷ []) ++ bs)
+      ≡ (not (eqb v w) || agree (cellAt cs w) (term b)) && accepts after bs
+  accepts-set = at (eqb v w) refl
     where
       at : (t : Bool) → eqb v w ≡ t
-          → follow (cellAt cs v) (onlyIf t (b ∷ []) ++ bs) ≡ (not t || agree (cellAt cs w) (term b)) && follow after bs
+          → accepts (cellAt cs v) (onlyIf t (b ∷ []) ++ bs) ≡ (not t || agree (cellAt cs w) (term b)) && accepts after bs
       at true e = rw (here e, eqb-true v w e)
       at false e = rw (there e)
 
@@ -189,25 +191,25 @@ only-agree cs w b l = at (leb w 15) refl
         let outside : cellAt cs w ≡ free = List·getD-eq-default cs free (omega (arith, leb-false w 15 e)) in
         rw outside (allPass-every (λ v. not (eqb v w) || true) variables (every-of (λ v. or-true (not (eqb v w))) variables))
 
--- every variable's terms follow its cell
-abbrev follows : List Place → List Cell → Bool
-follows xs cs = allPass (λ v. follow (cellAt cs v) (termsFor v xs)) variables
+-- every variable's cell accepts its terms
+abbrev allAccept : List FilledSlot → List Cell → Bool
+allAccept xs cs = allPass (λ v. accepts (cellAt cs v) (termsFor v xs)) variables
 
--- places fit in turn where every term stands, and the terms of each variable follow its cell
-fitInTurn-follows : (xs : List Place) (cs : List Cell) → length cs ≡ 16 → fitInTurn xs cs ≡ termsStand xs && follows xs cs
-fitInTurn-follows [] cs l = refl
-fitInTurn-follows (x ∷ xs) cs l = at (x .slot) (x .value) (fitInTurn-follows xs)
+-- slots fit in turn where every term stands, and each variable's cell accepts its terms
+fitInTurn-accepts : (xs : List FilledSlot) (cs : List Cell) → length cs ≡ 16 → fitInTurn xs cs ≡ termsStand xs && allAccept xs cs
+fitInTurn-accepts [] cs l = refl
+fitInTurn-accepts (x ∷ xs) cs l = at (x .slot) (x .value) (fitInTurn-accepts xs)
   where
-    at : (s : Slot) (b : ℕ) → ((ds : List Cell) → length ds ≡ 16 → fitInTurn xs ds ≡ termsStand xs && follows xs ds)
+    at : (s : Slot) (b : ℕ) → ((ds : List Cell) → length ds ≡ 16 → fitInTurn xs ds ≡ termsStand xs && allAccept xs ds)
         → slotFits s b cs && fitInTurn xs (bindSlot s b cs)
         ≡ (termStands s b && termsStand xs)
-        && allPass (λ v. follow (cellAt cs v) (onlyIf (isVariable v s) (b ∷ []) ++ termsFor v xs)) variables
-    at (aTerm a) b later = rw (later cs l) (sym (and-assoc (eqb a b) (termsStand xs) (follows xs cs)))
+        && allPass (λ v. accepts (cellAt cs v) (onlyIf (isVariable v s) (b ∷ []) ++ termsFor v xs)) variables
+    at (aTerm a) b later = rw (later cs l) (sym (and-assoc (eqb a b) (termsStand xs) (allAccept xs cs)))
     at (aVariable w) b later =
         rw (later after-cells (length-set cs w (term b) ∙ l))
-        (sym (and-assoc q (termsStand xs) (follows xs after-cells))
-        ∙ ap (λ (t : Bool). t && follows xs after-cells) (and-comm q (termsStand xs))
-        ∙ and-assoc (termsStand xs) q (follows xs after-cells)
+        (sym (and-assoc q (termsStand xs) (allAccept xs after-cells))
+        ∙ ap (λ (t : Bool). t && allAccept xs after-cells) (and-comm q (termsStand xs))
+        ∙ and-assoc (termsStand xs) q (allAccept xs after-cells)
         ∙ ap (λ (t : Bool). termsStand xs && t) (sym asked))
       where
         after-cells : List Cell
@@ -217,13 +219,13 @@ fitInTurn-follows (x ∷ xs) cs l = at (x .slot) (x .value) (fitInTurn-follows x
         q = agree (cellAt cs w) (term b)
 
         -- what is asked of the variables is what is asked of w, and then of all
-        asked : allPass (λ v. follow (cellAt cs v) (onlyIf (eqb v w) (b ∷ []) ++ termsFor v xs)) variables ≡ q && follows xs after-cells
+        asked : allPass (λ v. accepts (cellAt cs v) (onlyIf (eqb v w) (b ∷ []) ++ termsFor v xs)) variables ≡ q && allAccept xs after-cells
         asked =
-            allPass-cong (λ v. follow (cellAt cs v) (onlyIf (eqb v w) (b ∷ []) ++ termsFor v xs))
-            (λ v. (not (eqb v w) || q) && follow (cellAt after-cells v) (termsFor v xs)) variables
-            (every-weaken (λ v h. follow-set cs l w b v h (termsFor v xs)) variables below16)
-            ∙ allPass-and (λ v. not (eqb v w) || q) (λ v. follow (cellAt after-cells v) (termsFor v xs)) variables
-            ∙ ap (λ (t : Bool). t && follows xs after-cells) (only-agree cs w b l)
+            allPass-cong (λ v. accepts (cellAt cs v) (onlyIf (eqb v w) (b ∷ []) ++ termsFor v xs))
+            (λ v. (not (eqb v w) || q) && accepts (cellAt after-cells v) (termsFor v xs)) variables
+            (every-weaken (λ v h. accepts-set cs l w b v h (termsFor v xs)) variables below16)
+            ∙ allPass-and (λ v. not (eqb v w) || q) (λ v. accepts (cellAt after-cells v) (termsFor v xs)) variables
+            ∙ ap (λ (t : Bool). t && allAccept xs after-cells) (only-agree cs w b l)
 
 -- the cells by variable
 pub map-cellAt : (cs : List Cell) → length cs ≡ 16 → cs ≡ map (cellAt cs) variables
@@ -232,7 +234,7 @@ map-cellAt cs l =
     (λ v h. sym (getD-map-upFrom (cellAt cs) 0 16 v free (omega arith) ∙ rw (zero-add v)))
 
 -- and leave, for each variable, the last of its terms
-bindInTurn-last : (xs : List Place) (cs : List Cell) → length cs ≡ 16
+bindInTurn-last : (xs : List FilledSlot) (cs : List Cell) → length cs ≡ 16
     → bindInTurn xs cs ≡ map (λ v. last (cellAt cs v) (termsFor v xs)) variables
 bindInTurn-last [] cs l = map-cellAt cs l
 bindInTurn-last (x ∷ xs) cs l = at (x .slot) (x .value) (bindInTurn-last xs)
@@ -250,17 +252,17 @@ bindInTurn-last (x ∷ xs) cs l = at (x .slot) (x .value) (bindInTurn-last xs)
 
 -- ---- rows
 
--- places fit in turn, from no cells on, where every variable gets one term
-fitInTurn-fits : (xs : List Place) → fitInTurn xs noCells ≡ fits xs
+-- slots fit in turn, from no cells on, where every variable gets one term
+fitInTurn-fits : (xs : List FilledSlot) → fitInTurn xs noCells ≡ fits xs
 fitInTurn-fits xs =
-    fitInTurn-follows xs noCells refl
+    fitInTurn-accepts xs noCells refl
     ∙ ap (λ (t : Bool). termsStand xs && t)
-    (allPass-cong (λ v. follow free (termsFor v xs)) (λ v. allSame (termsFor v xs)) variables
-    (every-of (λ v. follow-free (termsFor v xs)) variables))
+    (allPass-cong (λ v. accepts free (termsFor v xs)) (λ v. allSame (termsFor v xs)) variables
+    (every-of (λ v. accepts-free (termsFor v xs)) variables))
 
 -- and then leave that term
-bindInTurn-placed : (xs : List Place) → fits xs ≡ true → bindInTurn xs noCells ≡ placedCells xs
-bindInTurn-placed xs e =
+bindInTurn-filled : (xs : List FilledSlot) → fits xs ≡ true → bindInTurn xs noCells ≡ filledCells xs
+bindInTurn-filled xs e =
     bindInTurn-last xs noCells refl
     ∙ map-cong (λ v. last free (termsFor v xs)) (λ v. firstTerm (termsFor v xs)) variables
     (every-weaken (λ v h. last-free (termsFor v xs) h) variables one)
@@ -273,16 +275,16 @@ pub setRows-tuples : (g : Aggregate) (fs : List Fact) (ps : List Pattern) → se
 unfolding setRows tupleRows
 setRows-tuples g fs ps =
     ap (map (choiceRow g)) (choices-tuples fs ps noCells)
-    ∙ map-map (choiceRow g) (tupleChoice ps noCells) (keepIf (λ us. fitInTurn (places ps us) noCells) all)
+    ∙ map-map (choiceRow g) (tupleChoice ps noCells) (keepIf (λ us. fitInTurn (filledSlots ps us) noCells) all)
     ∙ ap (map (λ us. choiceRow g (tupleChoice ps noCells us)))
-    (keepIf-cong _ (λ us. fits (places ps us)) all (every-of (λ us. fitInTurn-fits (places ps us)) all))
-    ∙ map-cong _ (tupleRow g ps) kept (every-weaken at kept (keepIf-passes (λ us. fits (places ps us)) all))
+    (keepIf-cong _ (λ us. fits (filledSlots ps us)) all (every-of (λ us. fitInTurn-fits (filledSlots ps us)) all))
+    ∙ map-cong _ (tupleRow g ps) kept (every-weaken at kept (keepIf-passes (λ us. fits (filledSlots ps us)) all))
   where
     all : List (List Fact)
     all = tuples fs (length ps)
 
     kept : List (List Fact)
-    kept = keepIf (λ us. fits (places ps us)) all
+    kept = keepIf (λ us. fits (filledSlots ps us)) all
 
-    at : (us : List Fact) → fits (places ps us) ≡ true → choiceRow g (tupleChoice ps noCells us) ≡ tupleRow g ps us
-    at us e = λ i. record { cells = bindInTurn-placed (places ps us) e i; trust = g us }
+    at : (us : List Fact) → fits (filledSlots ps us) ≡ true → choiceRow g (tupleChoice ps noCells us) ≡ tupleRow g ps us
+    at us e = λ i. record { cells = bindInTurn-filled (filledSlots ps us) e i; trust = g us }
