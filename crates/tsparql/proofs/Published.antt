@@ -22,9 +22,8 @@ use Rattle.tsparql.specs.WellFormed.{SlotFormed, PatternFormed, NodeForm
 use Rattle.tsparql.specs.Check.{Passes, slotVariables, variablesOf, evaluateLimit, check}
 use Rattle.tsparql.specs.Cardinality.{slotCell, becomes, becomesRecord, isSolution}
 use Rattle.tsparql.specs.Cardinality.{SetAggregate, publishedCardinality, Published, EveryNode}
-use Rattle.tsparql.proofs.ListLaws.{and-left, and-right, and-both, and-interchange, test-eq, every-weaken, every-append}
-use Rattle.tsparql.proofs.ListLaws.{every-concatMap}
-use Rattle.tsparql.proofs.ListLaws.{allPass-passes}
+use Rattle.tsparql.proofs.ListLaws.{and-left, and-right, and-both, and-interchange, test-eq}
+use Rattle.tsparql.proofs.ListLaws.{every-weaken, every-append, every-concatMap, allPass-passes}
 use Rattle.tsparql.proofs.TableLaws.{Rising, key, factsIn-rising}
 use Rattle.tsparql.proofs.QueryLaws.{check-parts, query-checked}
 use Rattle.tsparql.proofs.Cardinalities.{sameCell-true}

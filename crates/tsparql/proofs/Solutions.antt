@@ -40,7 +40,7 @@ use Rattle.tsparql.proofs.Cardinalities.{sameCell-true, sameCell-refl, 
 abbrev hasTerms : Cell → List ℕ → Bool
 hasTerms c bs = allPass (λ b. sameCell c (term b)) bs
 
--- there is one
+-- the list has an element
 abbrev some : {A : Type 0} → List A → Bool
 some [] = false
 some (x ∷ xs) = true
