@@ -32,6 +32,14 @@ pub or-right : (p q : Bool) → p || q ≡ true → p ≡ false → q ≡ true
 or-right true q e f = cc
 or-right false q e f = e
 
+-- three in a row, one by one
+pub and-three : (p q r : Bool) → p && q && r ≡ true → (p ≡ true) × (q ≡ true) × (r ≡ true)
+and-three p q r e = let two = and-left (p && q) r e in (and-left p q two, and-right p q two, and-right (p && q) r e)
+
+-- grouped from the right, and from the left
+pub and-regroup : (p q r s : Bool) → p && (q && (r && s)) ≡ p && q && r && s
+and-regroup p q r s = sym (and-assoc p q (r && s)) ∙ sym (and-assoc (p && q) r s)
+
 pub and-interchange : (a b c d : Bool) → (a && b) && (c && d) ≡ (a && c) && (b && d)
 and-interchange true b c d = sym (and-assoc b c d) ∙ ap (λ (e : Bool). e && d) (and-comm b c) ∙ and-assoc c b d
 and-interchange false b c d = refl
@@ -112,6 +120,12 @@ module _ {A : Type 0} where
   pub allPass-and : (p q : A → Bool) (xs : List A) → allPass (λ x. p x && q x) xs ≡ allPass p xs && allPass q xs
   allPass-and p q [] = refl
   allPass-and p q (x ∷ xs) = rw (allPass-and p q xs) (and-interchange (p x) (q x) (allPass p xs) (allPass q xs))
+
+  -- a test that is two tests on every element, the first of which comes to b
+  pub allPass-two : (p q r : A → Bool) (b : Bool) (xs : List A) → Every (λ x. p x ≡ q x && r x) xs → allPass q xs ≡ b
+      → allPass p xs ≡ b && allPass r xs
+  allPass-two p q r b xs e h =
+      allPass-cong p (λ x. q x && r x) xs e ∙ allPass-and q r xs ∙ ap (λ (t : Bool). t && allPass r xs) h
 
   allPass-consIf : (p : A → Bool) (b : Bool) (x : A) (xs : List A) → allPass p (consIf b x xs) ≡ (not b || p x) && allPass p xs
   allPass-consIf p true x xs = refl

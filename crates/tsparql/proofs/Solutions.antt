@@ -22,10 +22,10 @@ use Rattle.tsparql.specs.Check.{slotVariables, variablesOf}
 use Rattle.tsparql.specs.Cardinality.{sameCells, sameRow, cardinality, countIf}
 use Rattle.tsparql.specs.Cardinality.{slotCell, becomes, becomesRecord, isSolution, subgraph}
 use Rattle.tsparql.specs.Cardinality.{setCardinality, SameRecords, SetAggregate}
-use Rattle.tsparql.proofs.ListLaws.{and-left, and-right, and-interchange, test-eq, every-of, every-weaken}
+use Rattle.tsparql.proofs.ListLaws.{and-left, and-right, and-three, and-regroup, and-interchange, test-eq, every-of, every-weaken}
 use Rattle.tsparql.proofs.ListLaws.{every-parts, every-map, every-concatMap}
 use Rattle.tsparql.proofs.ListLaws.{allPass-every, allPass-passes, allPass-cong}
-use Rattle.tsparql.proofs.ListLaws.{allPass-append, allPass-and, allPass-only, allPass-keepIf}
+use Rattle.tsparql.proofs.ListLaws.{allPass-append, allPass-and, allPass-two, allPass-only, allPass-keepIf}
 use Rattle.tsparql.proofs.ListLaws.{anyPass-append}
 use Rattle.tsparql.proofs.ListLaws.{keepIf-keepIf, keepIf-cong, keepIf-and, keepIf-none, keepIf-map}
 use Rattle.tsparql.proofs.ListLaws.{keepIf-concatMap, concatMap-same, map-cong, map-onlyIf, getD-map-upFrom}
@@ -94,11 +94,9 @@ says-terms cs (x ∷ xs) h = at (x .slot) (x .value) (h .0) (says-terms cs xs (h
     at (aVariable w) b k later =
         rw (← later)
         (ap (λ (t : Bool). t && termsStand xs)
-        (allPass-cong (λ v. hasTerms (cellAt cs v) (onlyIf (eqb v w) (b ∷ []) ++ termsFor v xs))
-        (λ v. (not (eqb v w) || q) && hasTerms (cellAt cs v) (termsFor v xs)) variables
-        (every-of (λ v. hasTerms-more cs w b v (termsFor v xs)) variables)
-        ∙ allPass-and (λ v. not (eqb v w) || q) (λ v. hasTerms (cellAt cs v) (termsFor v xs)) variables
-        ∙ ap (λ (t : Bool). t && haveTerms cs xs) (allPass-only 0 16 w q (omega arith) (k .0)))
+        (allPass-two (λ v. hasTerms (cellAt cs v) (onlyIf (eqb v w) (b ∷ []) ++ termsFor v xs)) (λ v. not (eqb v w) || q)
+        (λ v. hasTerms (cellAt cs v) (termsFor v xs)) q variables
+        (every-of (λ v. hasTerms-more cs w b v (termsFor v xs)) variables) (allPass-only 0 16 w q (omega arith) (k .0)))
         ∙ and-assoc q (haveTerms cs xs) (termsStand xs))
       where
         q : Bool
@@ -239,14 +237,8 @@ pub becomes-parts : (cs : List Cell) (p : Pattern) (f : Fact) → becomes cs p f
     → (sameCell (slotCell cs (p .subject)) (term (f .subject)) ≡ true)
     × (sameCell (slotCell cs (p .predicate)) (term (f .predicate)) ≡ true) × (sameCell (slotCell cs (p .object)) (term (f .object)) ≡ true)
 becomes-parts cs p f h =
-    let two = and-left (at (p .subject) (f .subject) && at (p .predicate) (f .predicate)) (at (p .object) (f .object)) h in (
-      and-left (at (p .subject) (f .subject)) (at (p .predicate) (f .predicate)) two,
-      and-right (at (p .subject) (f .subject)) (at (p .predicate) (f .predicate)) two,
-      and-right (at (p .subject) (f .subject) && at (p .predicate) (f .predicate)) (at (p .object) (f .object)) h,
-    )
-  where
-    at : Slot → ℕ → Bool
-    at s b = sameCell (slotCell cs s) (term b)
+    and-three (sameCell (slotCell cs (p .subject)) (term (f .subject))) (sameCell (slotCell cs (p .predicate)) (term (f .predicate)))
+    (sameCell (slotCell cs (p .object)) (term (f .object))) h
 
 -- a pattern becomes one triple
 becomes-key : (cs : List Cell) (p : Pattern) (f g : Fact) → becomes cs p f ≡ true → becomes cs p g ≡ true → key f ≡ key g
@@ -326,11 +318,9 @@ tuples-says fs cs r (p ∷ ps) =
     -- a tuple passes where its first record does, and then the others
     onFirst : (f : Fact) (us : List Fact) → test (f ∷ us) ≡ becomes cs p f && allPass (says cs) (filledSlots ps us)
     onFirst f us =
-        let one = sameCell (slotCell cs (p .subject)) (term (f .subject)) in
-        let two = sameCell (slotCell cs (p .predicate)) (term (f .predicate)) in
-        let three = sameCell (slotCell cs (p .object)) (term (f .object)) in
-        let others = allPass (says cs) (filledSlots ps us) in
-        sym (and-assoc one two (three && others)) ∙ sym (and-assoc (one && two) three others)
+        and-regroup (sameCell (slotCell cs (p .subject)) (term (f .subject)))
+        (sameCell (slotCell cs (p .predicate)) (term (f .predicate))) (sameCell (slotCell cs (p .object)) (term (f .object)))
+        (allPass (says cs) (filledSlots ps us))
 
     byFact : (f : Fact) → keepIf (λ us. allPass (says cs) (filledSlots ps us)) later ≡ onlyIf all (rest ∷ [])
         → keepIf test (map (λ us. f ∷ us) later) ≡ onlyIf (becomes cs p f) (onlyIf all ((f ∷ rest) ∷ []))

@@ -15,12 +15,12 @@ use Rattle.tsparql.specs.Lists.{Every, onlyIf, keepIf, allPass}
 use Rattle.tsparql.specs.Values.{Cell, free, term, cellAt, variables, noCells, agree}
 use Rattle.tsparql.specs.Query.{Slot, aTerm, aVariable, Pattern}
 use Rattle.tsparql.specs.Table.{Fact}
-use Rattle.tsparql.specs.PatternSets.{slotFits, bindSlot, bindPattern, matches, Choice, withFact, choices}
+use Rattle.tsparql.specs.PatternSets.{slotFits, bindSlot, bindSubject, bindTwo, bindPattern, matches, Choice, withFact, choices}
 use Rattle.tsparql.specs.PatternSets.{Aggregate, choiceRow, setRows}
 use Rattle.tsparql.specs.Tuples.{tuples, FilledSlot, patternSlots, filledSlots, termStands, termsStand, isVariable, termsFor}
 use Rattle.tsparql.specs.Tuples.{allSame, fits, firstTerm, filledCells, tupleRow, tupleRows}
-use Rattle.tsparql.proofs.ListLaws.{and-left, and-right, every-of, every-weaken, every-upFrom}
-use Rattle.tsparql.proofs.ListLaws.{allPass-every, allPass-passes, allPass-cong, allPass-and, allPass-only}
+use Rattle.tsparql.proofs.ListLaws.{and-left, and-right, and-regroup, every-of, every-weaken, every-upFrom}
+use Rattle.tsparql.proofs.ListLaws.{allPass-every, allPass-passes, allPass-cong, allPass-two, allPass-only}
 use Rattle.tsparql.proofs.ListLaws.{keepIf-passes, keepIf-cong, keepIf-and, map-onlyIf, keepIf-map}
 use Rattle.tsparql.proofs.ListLaws.{keepIf-concatMap, map-concatMap, concatMap-same, map-cong, getD-map-upFrom}
 use Rattle.tsparql.proofs.ChoiceLaws.{choicesBy}
@@ -46,25 +46,8 @@ matches-filled : (p : Pattern) (f : Fact) (xs : List FilledSlot) (cs : List Cell
     → fitInTurn (patternSlots p f ++ xs) cs ≡ matches p f cs && fitInTurn xs (bindPattern p f cs)
 unfolding matches bindPattern
 matches-filled p f xs cs =
-    sym (and-assoc one two (three && rest)) ∙ sym (and-assoc (one && two) three rest)
-  where
-    first : List Cell
-    first = bindSlot (p .subject) (f .subject) cs
-
-    second : List Cell
-    second = bindSlot (p .predicate) (f .predicate) first
-
-    one : Bool
-    one = slotFits (p .subject) (f .subject) cs
-
-    two : Bool
-    two = slotFits (p .predicate) (f .predicate) first
-
-    three : Bool
-    three = slotFits (p .object) (f .object) second
-
-    rest : Bool
-    rest = fitInTurn xs (bindSlot (p .object) (f .object) second)
+    and-regroup (slotFits (p .subject) (f .subject) cs) (slotFits (p .predicate) (f .predicate) (bindSubject p f cs))
+    (slotFits (p .object) (f .object) (bindTwo p f cs)) (fitInTurn xs (bindPattern p f cs))
 
 -- the choices are those of the tuples whose slots fit in turn
 choices-tuples : (fs : List Fact) (ps : List Pattern) (cs : List Cell)
@@ -221,11 +204,9 @@ fitInTurn-accepts (x ∷ xs) cs l = at (x .slot) (x .value) (fitInTurn-accepts x
         -- what is asked of the variables is what is asked of w, and then of all
         asked : allPass (λ v. accepts (cellAt cs v) (onlyIf (eqb v w) (b ∷ []) ++ termsFor v xs)) variables ≡ q && allAccept xs after-cells
         asked =
-            allPass-cong (λ v. accepts (cellAt cs v) (onlyIf (eqb v w) (b ∷ []) ++ termsFor v xs))
-            (λ v. (not (eqb v w) || q) && accepts (cellAt after-cells v) (termsFor v xs)) variables
-            (every-weaken (λ v h. accepts-set cs l w b v h (termsFor v xs)) variables below16)
-            ∙ allPass-and (λ v. not (eqb v w) || q) (λ v. accepts (cellAt after-cells v) (termsFor v xs)) variables
-            ∙ ap (λ (t : Bool). t && allAccept xs after-cells) (only-agree cs w b l)
+            allPass-two (λ v. accepts (cellAt cs v) (onlyIf (eqb v w) (b ∷ []) ++ termsFor v xs)) (λ v. not (eqb v w) || q)
+            (λ v. accepts (cellAt after-cells v) (termsFor v xs)) q variables
+            (every-weaken (λ v h. accepts-set cs l w b v h (termsFor v xs)) variables below16) (only-agree cs w b l)
 
 -- the cells by variable
 pub map-cellAt : (cs : List Cell) → length cs ≡ 16 → cs ≡ map (cellAt cs) variables
