@@ -1,8 +1,7 @@
 -- The rows that an operator makes have the cardinalities of the published algebra (specs/Cardinality.antt); pattern sets are in
 -- Solutions, all nodes together in Published.
--- By group: tests and lists; the tests of sameness are equality; sums over lists; a sum over a list is one over its distinct rows
--- (sum-distinct); the cardinality of a row in lists put together; a law per operator; and Definition 3.1 as it is published,
--- for a variable that is free (cardinality-project-free).
+-- By group: tests and lists; the tests of sameness are equality; the cardinality of a row in lists put together; a law per operator;
+-- and Definition 3.1 as it is published, for a variable that is free (cardinality-project-free). Sums over distinct rows: SumLaws.
 -- Assumes nothing.
 use mathlib.Core.Path.{_≡_, refl, sym, ap, ap₂, _∙_, fun-ext}
 use mathlib.Core.Bool.{Bool, true, false, _&&_, _||_, not, and-comm}
@@ -13,24 +12,22 @@ use native.Mathlib.Omega.{arith}
 use lib.ListN.{length, take, set, length-append, length-map}
 use lib.Seq.{set-set, set-getD}
 use borrow.Author.Tests.{eqb-true, eq-eqb, not-true}
-use Rattle.tsparql.specs.Lists.{Every, consIf, onlyIf, keepIf, allPass, concatMap}
+use Rattle.tsparql.specs.Lists.{Every, consIf, onlyIf, keepIf, allPass, sumOver, concatMap}
 use Rattle.tsparql.specs.Values.{Trust, known, unknown, Cell, free, term, trusted, Row, sameTrust, sameCell}
 use Rattle.tsparql.specs.Values.{compatible, merge, withTrust, trustInside}
 use Rattle.tsparql.specs.Query.{Condition}
 use Rattle.tsparql.specs.Conditions.{Truth, holds, fails, errs, truthOn, trueOn, blocks, blocksOn}
 use Rattle.tsparql.specs.Rows.{merges, joinRows, stands, leftJoinRows}
-use Rattle.tsparql.specs.Cardinality.{FreeAt, sameCells, sameRow, cardinality, distinct, sumOver, countIf, isFalse, inDifference}
+use Rattle.tsparql.specs.Cardinality.{FreeAt, sameCells, sameRow, cardinality, distinct, countIf, isFalse, inDifference}
 use Rattle.tsparql.specs.Cardinality.{joinCardinality, filterCardinality, differenceCardinality, leftJoinCardinality}
 use Rattle.tsparql.specs.Cardinality.{unionCardinality, projectCardinality, ensureCardinality}
 use Rattle.tsparql.proofs.ListLaws.{and-left, and-right, and-both, test-eq, every-of, every-weaken, allPass-keepIf}
 use Rattle.tsparql.proofs.ListLaws.{consIf-append, keepIf-append, keepIf-keepIf, keepIf-cong, keepIf-and}
-use Rattle.tsparql.proofs.ListLaws.{keepIf-none, keepIf-passes, keepIf-map, keepIf-concatMap}
+use Rattle.tsparql.proofs.ListLaws.{keepIf-none, keepIf-map, keepIf-concatMap}
+use Rattle.tsparql.proofs.SumLaws.{sumOver-add, sumOver-mul, sumOver-same, countIf-mul, countIf-split}
+use Rattle.tsparql.proofs.SumLaws.{TellsSame, same-of-eq, sum-distinct, length-keepIf-distinct}
 
 -- ---- tests and lists
-
-not-and : (b : Bool) → not b && b ≡ false
-not-and true = refl
-not-and false = refl
 
 or-absorb : (p q : Bool) → (p ≡ true → q ≡ true) → p || q ≡ q
 or-absorb true q h = sym (h refl)
@@ -79,6 +76,9 @@ sameCell-refl free = refl
 sameCell-refl (term a) = eq-eqb a a refl
 sameCell-refl (trusted t) = sameTrust-refl t
 
+pub cell-same : TellsSame sameCell
+cell-same = record { only = sameCell-true; self = sameCell-refl }
+
 pub sameCells-true : (cs ds : List Cell) → sameCells cs ds ≡ true → cs ≡ ds
 sameCells-true [] [] e = refl
 sameCells-true [] (d ∷ ds) e = cc
@@ -103,156 +103,14 @@ sameRow-true x y e = λ i. record { cells = onCells i; trust = onTrust i }
 pub sameRow-refl : (x : Row) → sameRow x x ≡ true
 sameRow-refl x = and-both (sameCells-refl (x .cells)) (sameTrust-refl (x .trust))
 
-pub sameRow-of-eq : (x y : Row) → x ≡ y → sameRow x y ≡ true
-sameRow-of-eq x y e = rw e (sameRow-refl y)
+pub row-same : TellsSame sameRow
+row-same = record { only = sameRow-true; self = sameRow-refl }
 
-pub sameRow-sym : (x y : Row) → sameRow x y ≡ sameRow y x
-sameRow-sym x y =
-    test-eq (sameRow x y) (sameRow y x) (λ e. sameRow-of-eq y x (sym (sameRow-true x y e)))
-    (λ e. sameRow-of-eq x y (sym (sameRow-true y x e)))
-
--- ---- sums over lists
-
-pub sumOver-add : (xs : List Row) (f g : Row → ℕ) → sumOver xs (λ x. f x + g x) ≡ sumOver xs f + sumOver xs g
-sumOver-add [] f g = refl
-sumOver-add (x ∷ xs) f g = omega (arith, sumOver-add xs f g)
-
-pub sumOver-mul : (n : ℕ) (xs : List Row) (f : Row → ℕ) → n * sumOver xs f ≡ sumOver xs (λ x. n * f x)
-sumOver-mul n [] f = mul-zero n
-sumOver-mul n (x ∷ xs) f = mul-add n (f x) (sumOver xs f) ∙ ap (λ (s : ℕ). n * f x + s) (sumOver-mul n xs f)
-
--- two functions that agree on every element have the same sum
-pub sumOver-cong : (xs : List Row) (f g : Row → ℕ) → Every (λ x. f x ≡ g x) xs → sumOver xs f ≡ sumOver xs g
-sumOver-cong [] f g e = refl
-sumOver-cong (x ∷ xs) f g e = ap₂ _+_ (e .0) (sumOver-cong xs f g (e .1))
-
--- two functions that agree everywhere have the same sum
-pub sumOver-same : (xs : List Row) (f g : Row → ℕ) → ((x : Row) → f x ≡ g x) → sumOver xs f ≡ sumOver xs g
-sumOver-same xs f g e = sumOver-cong xs f g (every-of e xs)
-
-pub countIf-mul : (b : Bool) (n m : ℕ) → n * countIf b m ≡ countIf b (n * m)
-countIf-mul true n m = refl
-countIf-mul false n m = mul-zero n
+-- ---- the cardinality of a row in lists put together
 
 length-onlyIf-count : (b : Bool) (xs : List Row) → length (onlyIf b xs) ≡ countIf b (length xs)
 length-onlyIf-count true xs = refl
 length-onlyIf-count false xs = refl
-
--- a number is what it counts where a test passes, and where it does not
-pub countIf-split : (b : Bool) (n : ℕ) → n ≡ countIf b n + countIf (not b) n
-countIf-split true n = omega arith
-countIf-split false n = omega arith
-
-pub sumOver-consIf : (b : Bool) (x : Row) (xs : List Row) (f : Row → ℕ) → sumOver (consIf b x xs) f ≡ countIf b (f x) + sumOver xs f
-sumOver-consIf true x xs f = refl
-sumOver-consIf false x xs f = omega arith
-
--- a sum is the sum over the elements that pass a test, and over those that do not
-pub sumOver-split : (p : Row → Bool) (xs : List Row) (f : Row → ℕ)
-    → sumOver xs f ≡ sumOver (keepIf p xs) f + sumOver (keepIf (λ x. not (p x)) xs) f
-sumOver-split p [] f = refl
-sumOver-split p (x ∷ xs) f =
-    omega (
-      arith,
-      sumOver-split p xs f,
-      countIf-split (p x) (f x),
-      sumOver-consIf (p x) x (keepIf p xs) f,
-      sumOver-consIf (not (p x)) x (keepIf (λ y. not (p y)) xs) f,
-    )
-
--- the length of a list, as a sum
-pub length-sum : (xs : List Row) → length xs ≡ sumOver xs (λ x. 1)
-length-sum [] = refl
-length-sum (x ∷ xs) = omega (arith, length-sum xs)
-
--- the elements that pass a test, counted one by one
-pub length-keepIf-sum : (p : Row → Bool) (xs : List Row) → length (keepIf p xs) ≡ sumOver xs (λ x. countIf (p x) 1)
-length-keepIf-sum p [] = refl
-length-keepIf-sum p (x ∷ xs) =
-    omega (
-      arith,
-      length-sum (keepIf p (x ∷ xs)),
-      length-sum (keepIf p xs),
-      length-keepIf-sum p xs,
-      sumOver-consIf (p x) x (keepIf p xs) (λ y. 1),
-    )
-
--- ---- a sum over a list is one over its distinct rows
-
--- of the distinct rows, x is the one there is, if there is one
-pub keepIf-distinct : (x : Row) (ys : List Row) → keepIf (sameRow x) (distinct ys) ≡ take 1 (keepIf (sameRow x) ys)
-keepIf-distinct x [] = refl
-keepIf-distinct x (y ∷ ys) = at (sameRow x y) refl (keepIf-distinct x ys)
-  where
-    others : List Row
-    others = keepIf (λ z. not (sameRow y z)) (distinct ys)
-
-    both : (z : Row) → Bool
-    both z = not (sameRow y z) && sameRow x z
-
-    twice : keepIf (sameRow x) others ≡ keepIf both (distinct ys)
-    twice = keepIf-keepIf (sameRow x) (λ z. not (sameRow y z)) (distinct ys)
-
-    none : (z : Row) → x ≡ y → both z ≡ false
-    none z e = rw e (not-and (sameRow y z))
-
-    same : (z : Row) → sameRow x y ≡ false → both z ≡ sameRow x z
-    same z e =
-        test-eq (both z) (sameRow x z) (and-right (not (sameRow y z)) (sameRow x z))
-        (λ f. and-both (ap not (ap (sameRow y) (sym (sameRow-true x z f)) ∙ sameRow-sym y x ∙ e)) f)
-
-    at : (b : Bool) → sameRow x y ≡ b → keepIf (sameRow x) (distinct ys) ≡ take 1 (keepIf (sameRow x) ys)
-        → consIf b y (keepIf (sameRow x) others) ≡ take 1 (consIf b y (keepIf (sameRow x) ys))
-    at true e h =
-        let gone : keepIf both (distinct ys) ≡ [] =
-        keepIf-none both (distinct ys) (every-of (λ z. none z (sameRow-true x y e)) (distinct ys)) in
-        ap (λ (zs : List Row). y ∷ zs) (twice ∙ gone)
-    at false e h = twice ∙ keepIf-cong both (sameRow x) (distinct ys) (every-of (λ z. same z e) (distinct ys)) ∙ h
-
--- where every element is x, and a value of 0 stands for none: the value of the first element is that of x
-sumOver-first : (x : Row) (ys : List Row) (f : Row → ℕ) → Every (λ y. sameRow x y ≡ true) ys → (length ys ≡ 0 → f x ≡ 0)
-    → sumOver (take 1 ys) f ≡ f x
-sumOver-first x [] f e h = sym (h refl)
-sumOver-first x (y ∷ ys) f e h = add-zero (f y) ∙ ap f (sym (sameRow-true x y (e .0)))
-
--- a sum over a list is the sum over its distinct rows, each as often as it stands in the list
-pub sum-distinct : (xs : List Row) (f : Row → ℕ) → sumOver xs f ≡ sumOver (distinct xs) (λ x. cardinality xs x * f x)
-sum-distinct [] f = refl
-sum-distinct (x ∷ xs) f = total (sum-distinct xs f)
-  where
-    times : Row → ℕ
-    times y = cardinality xs y * f y
-
-    others : List Row
-    others = keepIf (λ y. not (sameRow x y)) (distinct xs)
-
-    front : cardinality (x ∷ xs) x * f x ≡ f x + times x
-    front = rw (sameRow-refl x) (omega (arith, suc-mul (cardinality xs x) (f x)))
-
-    here : sumOver (keepIf (sameRow x) (distinct xs)) times ≡ times x
-    here =
-        rw (keepIf-distinct x xs)
-        (sumOver-first x (keepIf (sameRow x) xs) times (keepIf-passes (sameRow x) xs) (λ e. ap (λ (n : ℕ). n * f x) e ∙ zero-mul (f x)))
-
-    skipped : (y : Row) → not (sameRow x y) ≡ true → times y ≡ cardinality (x ∷ xs) y * f y
-    skipped y e = rw (sameRow-sym y x, not-true (sameRow x y) e)
-
-    there : sumOver others times ≡ sumOver others (λ y. cardinality (x ∷ xs) y * f y)
-    there = sumOver-cong others times _ (every-weaken skipped others (keepIf-passes (λ y. not (sameRow x y)) (distinct xs)))
-
-    total : sumOver xs f ≡ sumOver (distinct xs) times
-        → sumOver (x ∷ xs) f ≡ sumOver (distinct (x ∷ xs)) (λ y. cardinality (x ∷ xs) y * f y)
-    total h = omega (arith, front, here, there, sumOver-split (sameRow x) (distinct xs) times)
-
--- how many elements pass a test, over the distinct rows
-pub length-keepIf-distinct : (p : Row → Bool) (xs : List Row)
-    → length (keepIf p xs) ≡ sumOver (distinct xs) (λ x. countIf (p x) (cardinality xs x))
-length-keepIf-distinct p xs =
-    length-keepIf-sum p xs
-    ∙ sum-distinct xs (λ x. countIf (p x) 1)
-    ∙ sumOver-same (distinct xs) _ _ (λ x. countIf-mul (p x) (cardinality xs x) 1 ∙ ap (countIf (p x)) (mul-one (cardinality xs x)))
-
--- ---- the cardinality of a row in lists put together
 
 pub cardinality-append : (xs ys : List Row) (r : Row) → cardinality (xs ++ ys) r ≡ cardinality xs r + cardinality ys r
 cardinality-append xs ys r =
@@ -301,12 +159,12 @@ pub cardinality-merges : (x : Row) (ys : List Row) (r : Row)
 cardinality-merges x ys r =
     cardinality-map (merge x) (keepIf (compatible x) ys) r
     ∙ ap length (keepIf-keepIf (λ y. sameRow r (merge x y)) (compatible x) ys)
-    ∙ length-keepIf-distinct (λ y. compatible x y && sameRow r (merge x y)) ys
+    ∙ length-keepIf-distinct sameRow row-same (λ y. compatible x y && sameRow r (merge x y)) ys
 
 pub cardinality-join : (xs ys : List Row) (r : Row) → cardinality (joinRows xs ys) r ≡ joinCardinality xs ys r
 cardinality-join xs ys r =
     cardinality-concatMap (λ x. merges x ys) xs r
-    ∙ sum-distinct xs (λ x. cardinality (merges x ys) r)
+    ∙ sum-distinct sameRow row-same xs (λ x. cardinality (merges x ys) r)
     ∙ sumOver-same (distinct xs) (λ x. cardinality xs x * cardinality (merges x ys) r) products onLeft
   where
     merged : Row → Row → Bool
@@ -362,7 +220,7 @@ pub cardinality-union : (xs ys : List Row) (r : Row) → cardinality (xs ++ ys) 
 cardinality-union xs ys r = cardinality-append xs ys r
 
 pub cardinality-project : (v : ℕ) (xs : List Row) (r : Row) → cardinality (map (withTrust v) xs) r ≡ projectCardinality v xs r
-cardinality-project v xs r = cardinality-map (withTrust v) xs r ∙ length-keepIf-distinct (λ x. sameRow r (withTrust v x)) xs
+cardinality-project v xs r = cardinality-map (withTrust v) xs r ∙ length-keepIf-distinct sameRow row-same (λ x. sameRow r (withTrust v x)) xs
 
 pub cardinality-ensure : (l u : ℕ) (xs : List Row) (r : Row) → cardinality (keepIf (trustInside l u) xs) r ≡ ensureCardinality l u xs r
 cardinality-ensure l u xs r = cardinality-keepIf (trustInside l u) xs r
@@ -388,5 +246,5 @@ cardinality-project-free v xs r e f =
     at : (x : Row) → FreeAt v x → sameRow (withTrust v r) (withTrust v x) ≡ sameRow r x
     at x g =
         test-eq _ (sameRow r x)
-        (λ h. sameRow-of-eq r x (withTrust-injective v r x f g (sameRow-true (withTrust v r) (withTrust v x) h)))
-        (λ h. sameRow-of-eq (withTrust v r) (withTrust v x) (ap (withTrust v) (sameRow-true r x h)))
+        (λ h. same-of-eq sameRow row-same r x (withTrust-injective v r x f g (sameRow-true (withTrust v r) (withTrust v x) h)))
+        (λ h. same-of-eq sameRow row-same (withTrust v r) (withTrust v x) (ap (withTrust v) (sameRow-true r x h)))

@@ -1,6 +1,7 @@
 -- The laws about the definitions, each file above the ones that it uses.
--- Lists, trust and rows
+-- Lists, sums, trust and rows
 pub mod ListLaws
+pub mod SumLaws
 pub mod TrustLaws
 pub mod RowLaws
 -- What push does to rows, space and pairs

@@ -81,6 +81,16 @@ module _ {A : Type 0} where
   every-keepIf P p [] e = tt
   every-keepIf P p (x ∷ xs) e = every-consIf P (p x) x (keepIf p xs) (e .0) (every-keepIf P p xs (e .1))
 
+  -- of the element at a place, and of every element by its place
+  pub every-at : (P : A → Type 0) (xs : List A) (i : ℕ) (d : A) → i < length xs → Every P xs → P (getD xs i d)
+  every-at P [] i d h e = absurd (omega arith)
+  every-at P (x ∷ xs) zero d h e = e .0
+  every-at P (x ∷ xs) (suc i) d h e = every-at P xs i d (omega arith) (e .1)
+
+  pub every-each : (P : A → Type 0) (xs : List A) (d : A) → ((i : ℕ) → i < length xs → P (getD xs i d)) → Every P xs
+  every-each P [] d h = tt
+  every-each P (x ∷ xs) d h = (h 0 (omega arith), every-each P xs d (λ i l. h (suc i) (omega arith)))
+
 module _ {A B : Type 0} where
   pub every-map : (P : B → Type 0) (f : A → B) (xs : List A) → Every (λ x. P (f x)) xs → Every P (map f xs)
   every-map P f [] e = tt
@@ -141,6 +151,26 @@ module _ {A : Type 0} where
   anyPass-append p [] ys = refl
   anyPass-append p (x ∷ xs) ys =
       ap (λ (b : Bool). p x || b) (anyPass-append p xs ys) ∙ sym (or-assoc (p x) (anyPass p xs) (anyPass p ys))
+
+  -- none passes
+  pub anyPass-none : (p : A → Bool) (xs : List A) → Every (λ x. p x ≡ false) xs → anyPass p xs ≡ false
+  anyPass-none p [] e = refl
+  anyPass-none p (x ∷ xs) e = rw (e .0) (anyPass-none p xs (e .1))
+
+  pub anyPass-fails : (p : A → Bool) (xs : List A) → anyPass p xs ≡ false → Every (λ x. p x ≡ false) xs
+  anyPass-fails p [] e = tt
+  anyPass-fails p (x ∷ xs) e = go (p x) refl e (anyPass-fails p xs)
+    where
+      go : (b : Bool) → p x ≡ b → b || anyPass p xs ≡ false → (anyPass p xs ≡ false → Every (λ y. p y ≡ false) xs)
+          → (p x ≡ false) × Every (λ y. p y ≡ false) xs
+      go true f e k = (f ∙ e, k (cc e))
+      go false f e k = (f, k e)
+
+  -- one passes
+  pub anyPass-at : (p : A → Bool) (xs : List A) (i : ℕ) (d : A) → i < length xs → p (getD xs i d) ≡ true → anyPass p xs ≡ true
+  anyPass-at p [] i d h e = absurd (omega arith)
+  anyPass-at p (x ∷ xs) zero d h e = rw e
+  anyPass-at p (x ∷ xs) (suc i) d h e = rw (anyPass-at p xs i d (omega arith) e) (or-true (p x))
 
 -- a test that fails for one of n numbers from i on
 pub allPass-fails : (p : ℕ → Bool) (i n m : ℕ) → i ≤ m → m < i + n → p m ≡ false → allPass p (upFrom i n) ≡ false
@@ -252,6 +282,10 @@ module _ {A B : Type 0} where
   keepIf-map p f [] = refl
   keepIf-map p f (x ∷ xs) =
       ap (consIf (p (f x)) (f x)) (keepIf-map p f xs) ∙ sym (map-consIf f (p (f x)) x (keepIf (λ y. p (f y)) xs))
+
+  pub anyPass-map : (p : B → Bool) (f : A → B) (xs : List A) → anyPass p (map f xs) ≡ anyPass (λ x. p (f x)) xs
+  anyPass-map p f [] = refl
+  anyPass-map p f (x ∷ xs) = ap (λ (b : Bool). p (f x) || b) (anyPass-map p f xs)
 
   pub concatMap-append : (f : A → List B) (xs ys : List A) → concatMap f (xs ++ ys) ≡ concatMap f xs ++ concatMap f ys
   concatMap-append f [] ys = refl

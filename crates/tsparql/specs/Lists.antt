@@ -1,10 +1,10 @@
 -- Functions on lists that the definitions are made of: choosing elements by a test, lists one after the other, what holds of every
--- element, rising numbers.
+-- element, each element once, sums, rising numbers.
 -- Their laws are in proofs/ListLaws.antt. Length, take, drop, set and the like are the library's (lib.ListN).
 -- Assumes nothing.
-use mathlib.Core.Bool.{Bool, true, false, _&&_, _||_}
+use mathlib.Core.Bool.{Bool, true, false, _&&_, _||_, not}
 use mathlib.Core.List.{List, [], _∷_, _++_}
-use Prim.Native.Nat.{ℕ, zero, suc}
+use Prim.Native.Nat.{ℕ, zero, suc, _+_}
 
 module _ {A : Type 0} where
   -- x in front of xs where the test passed
@@ -31,6 +31,16 @@ module _ {A : Type 0} where
   abbrev pub anyPass : (A → Bool) → List A → Bool
   anyPass p [] = false
   anyPass p (x ∷ xs) = p x || anyPass p xs
+
+  -- each element once, in order of first appearance; the test says which are the same
+  abbrev pub distinctBy : (A → A → Bool) → List A → List A
+  distinctBy same [] = []
+  distinctBy same (x ∷ xs) = x ∷ keepIf (λ y. not (same x y)) (distinctBy same xs)
+
+  -- the sum of what f gives
+  abbrev pub sumOver : List A → (A → ℕ) → ℕ
+  sumOver [] f = 0
+  sumOver (x ∷ xs) f = f x + sumOver xs f
 
 module _ {A B : Type 0} where
   -- the lists that f makes of the elements, one after the other

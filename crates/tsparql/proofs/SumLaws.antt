@@ -1,0 +1,201 @@
+-- Sums over lists; a test of sameness that is equality; the distinct elements by such a test, each as often as it stands in the list
+-- (`sum-distinct`), once (`keepIf-distinct`), and of one element more (`distinct-more`). Assumes nothing.
+use mathlib.Core.Path.{_≡_, refl, sym, ap, ap₂, _∙_}
+use mathlib.Core.Bool.{Bool, true, false, _&&_, _||_, not, not-and-self}
+use mathlib.Core.List.{List, [], _∷_, _++_}
+use Prim.Native.Nat.{ℕ, _+_, _*_, _≤_}
+use native.Mathlib.Nat.{le-refl, add-zero, zero-mul, mul-zero, mul-one, mul-add, suc-mul}
+use native.Mathlib.Omega.{arith}
+use lib.ListN.{length, take}
+use borrow.Author.Tests.{not-true}
+use Rattle.tsparql.specs.Lists.{Every, consIf, keepIf, anyPass, distinctBy, sumOver}
+use Rattle.tsparql.specs.Cardinality.{countIf}
+use Rattle.tsparql.proofs.ListLaws.{and-right, and-both, test-eq, every-of, every-weaken, every-keepIf, length-keepIf}
+use Rattle.tsparql.proofs.ListLaws.{keepIf-append, keepIf-consIf, keepIf-keepIf, keepIf-cong, keepIf-none, keepIf-passes}
+
+-- ---- sums over lists
+
+pub countIf-mul : (b : Bool) (n m : ℕ) → n * countIf b m ≡ countIf b (n * m)
+countIf-mul true n m = refl
+countIf-mul false n m = mul-zero n
+
+-- a number is what it counts where a test passes, and where it does not
+pub countIf-split : (b : Bool) (n : ℕ) → n ≡ countIf b n + countIf (not b) n
+countIf-split true n = omega arith
+countIf-split false n = omega arith
+
+module _ {A : Type 0} where
+  pub sumOver-add : (xs : List A) (f g : A → ℕ) → sumOver xs (λ x. f x + g x) ≡ sumOver xs f + sumOver xs g
+  sumOver-add [] f g = refl
+  sumOver-add (x ∷ xs) f g = omega (arith, sumOver-add xs f g)
+
+  pub sumOver-mul : (n : ℕ) (xs : List A) (f : A → ℕ) → n * sumOver xs f ≡ sumOver xs (λ x. n * f x)
+  sumOver-mul n [] f = mul-zero n
+  sumOver-mul n (x ∷ xs) f = mul-add n (f x) (sumOver xs f) ∙ ap (λ (s : ℕ). n * f x + s) (sumOver-mul n xs f)
+
+  -- two functions that agree on every element have the same sum
+  pub sumOver-cong : (xs : List A) (f g : A → ℕ) → Every (λ x. f x ≡ g x) xs → sumOver xs f ≡ sumOver xs g
+  sumOver-cong [] f g e = refl
+  sumOver-cong (x ∷ xs) f g e = ap₂ _+_ (e .0) (sumOver-cong xs f g (e .1))
+
+  -- two functions that agree everywhere have the same sum
+  pub sumOver-same : (xs : List A) (f g : A → ℕ) → ((x : A) → f x ≡ g x) → sumOver xs f ≡ sumOver xs g
+  sumOver-same xs f g e = sumOver-cong xs f g (every-of e xs)
+
+  pub sumOver-consIf : (b : Bool) (x : A) (xs : List A) (f : A → ℕ) → sumOver (consIf b x xs) f ≡ countIf b (f x) + sumOver xs f
+  sumOver-consIf true x xs f = refl
+  sumOver-consIf false x xs f = omega arith
+
+  -- a sum is the sum over the elements that pass a test, and over those that do not
+  pub sumOver-split : (p : A → Bool) (xs : List A) (f : A → ℕ)
+      → sumOver xs f ≡ sumOver (keepIf p xs) f + sumOver (keepIf (λ x. not (p x)) xs) f
+  sumOver-split p [] f = refl
+  sumOver-split p (x ∷ xs) f =
+      omega (
+        arith,
+        sumOver-split p xs f,
+        countIf-split (p x) (f x),
+        sumOver-consIf (p x) x (keepIf p xs) f,
+        sumOver-consIf (not (p x)) x (keepIf (λ y. not (p y)) xs) f,
+      )
+
+  -- the length of a list, as a sum
+  pub length-sum : (xs : List A) → length xs ≡ sumOver xs (λ x. 1)
+  length-sum [] = refl
+  length-sum (x ∷ xs) = omega (arith, length-sum xs)
+
+  -- the elements that pass a test, counted one by one
+  pub length-keepIf-sum : (p : A → Bool) (xs : List A) → length (keepIf p xs) ≡ sumOver xs (λ x. countIf (p x) 1)
+  length-keepIf-sum p [] = refl
+  length-keepIf-sum p (x ∷ xs) =
+      omega (
+        arith,
+        length-sum (keepIf p (x ∷ xs)),
+        length-sum (keepIf p xs),
+        length-keepIf-sum p xs,
+        sumOver-consIf (p x) x (keepIf p xs) (λ y. 1),
+      )
+
+-- ---- a test of sameness
+
+-- the test is equality
+pub record TellsSame {A : Type 0} (same : A → A → Bool) : Type 0 where
+  pub only : (x y : A) → same x y ≡ true → x ≡ y
+  pub self : (x : A) → same x x ≡ true
+
+module _ {A : Type 0} (same : A → A → Bool) (tells : TellsSame same) where
+  pub same-of-eq : (x y : A) → x ≡ y → same x y ≡ true
+  same-of-eq x y e = rw e (tells .self y)
+
+  pub same-sym : (x y : A) → same x y ≡ same y x
+  same-sym x y =
+      test-eq (same x y) (same y x) (λ e. same-of-eq y x (sym (tells .only x y e))) (λ e. same-of-eq x y (sym (tells .only y x e)))
+
+-- ---- the distinct elements of a list
+
+module _ {A : Type 0} (same : A → A → Bool) where
+  -- what holds of every element holds of the distinct ones
+  pub every-distinct : (P : A → Type 0) (xs : List A) → Every P xs → Every P (distinctBy same xs)
+  every-distinct P [] e = tt
+  every-distinct P (x ∷ xs) e = (e .0, every-keepIf P (λ y. not (same x y)) (distinctBy same xs) (every-distinct P xs (e .1)))
+
+  pub length-distinct : (xs : List A) → length (distinctBy same xs) ≤ length xs
+  length-distinct [] = le-refl 0
+  length-distinct (x ∷ xs) = omega (arith, length-distinct xs, length-keepIf (λ y. not (same x y)) (distinctBy same xs))
+
+module _ {A : Type 0} (same : A → A → Bool) (tells : TellsSame same) where
+  -- of the distinct elements, x is the one there is, if there is one
+  pub keepIf-distinct : (x : A) (ys : List A) → keepIf (same x) (distinctBy same ys) ≡ take 1 (keepIf (same x) ys)
+  keepIf-distinct x [] = refl
+  keepIf-distinct x (y ∷ ys) = at (same x y) refl (keepIf-distinct x ys)
+    where
+      others : List A
+      others = keepIf (λ z. not (same y z)) (distinctBy same ys)
+
+      both : (z : A) → Bool
+      both z = not (same y z) && same x z
+
+      twice : keepIf (same x) others ≡ keepIf both (distinctBy same ys)
+      twice = keepIf-keepIf (same x) (λ z. not (same y z)) (distinctBy same ys)
+
+      none : (z : A) → x ≡ y → both z ≡ false
+      none z e = rw e (not-and-self (same y z))
+
+      kept : (z : A) → same x y ≡ false → both z ≡ same x z
+      kept z e =
+          test-eq (both z) (same x z) (and-right (not (same y z)) (same x z))
+          (λ f. and-both (ap not (ap (same y) (sym (tells .only x z f)) ∙ same-sym same tells y x ∙ e)) f)
+
+      at : (b : Bool) → same x y ≡ b → keepIf (same x) (distinctBy same ys) ≡ take 1 (keepIf (same x) ys)
+          → consIf b y (keepIf (same x) others) ≡ take 1 (consIf b y (keepIf (same x) ys))
+      at true e h =
+          let gone : keepIf both (distinctBy same ys) ≡ [] =
+          keepIf-none both (distinctBy same ys) (every-of (λ z. none z (tells .only x y e)) (distinctBy same ys)) in
+          ap (λ (zs : List A). y ∷ zs) (twice ∙ gone)
+      at false e h = twice ∙ keepIf-cong both (same x) (distinctBy same ys) (every-of (λ z. kept z e) (distinctBy same ys)) ∙ h
+
+  -- where every element is x, and a value of 0 stands for none: the value of the first element is that of x
+  sumOver-first : (x : A) (ys : List A) (f : A → ℕ) → Every (λ y. same x y ≡ true) ys → (length ys ≡ 0 → f x ≡ 0)
+      → sumOver (take 1 ys) f ≡ f x
+  sumOver-first x [] f e h = sym (h refl)
+  sumOver-first x (y ∷ ys) f e h = add-zero (f y) ∙ ap f (sym (tells .only x y (e .0)))
+
+  -- how often an element stands in a list
+  abbrev times : List A → A → ℕ
+  times xs x = length (keepIf (same x) xs)
+
+  -- a sum over a list is the sum over its distinct elements, each as often as it stands in the list
+  pub sum-distinct : (xs : List A) (f : A → ℕ)
+      → sumOver xs f ≡ sumOver (distinctBy same xs) (λ x. length (keepIf (same x) xs) * f x)
+  sum-distinct [] f = refl
+  sum-distinct (x ∷ xs) f = total (sum-distinct xs f)
+    where
+      each : A → ℕ
+      each y = times xs y * f y
+
+      others : List A
+      others = keepIf (λ y. not (same x y)) (distinctBy same xs)
+
+      front : times (x ∷ xs) x * f x ≡ f x + each x
+      front = rw (tells .self x) (omega (arith, suc-mul (times xs x) (f x)))
+
+      here : sumOver (keepIf (same x) (distinctBy same xs)) each ≡ each x
+      here =
+          rw (keepIf-distinct x xs)
+          (sumOver-first x (keepIf (same x) xs) each (keepIf-passes (same x) xs) (λ e. ap (λ (n : ℕ). n * f x) e ∙ zero-mul (f x)))
+
+      skipped : (y : A) → not (same x y) ≡ true → each y ≡ times (x ∷ xs) y * f y
+      skipped y e = rw (same-sym same tells y x, not-true (same x y) e)
+
+      there : sumOver others each ≡ sumOver others (λ y. times (x ∷ xs) y * f y)
+      there = sumOver-cong others each _ (every-weaken skipped others (keepIf-passes (λ y. not (same x y)) (distinctBy same xs)))
+
+      total : sumOver xs f ≡ sumOver (distinctBy same xs) each
+          → sumOver (x ∷ xs) f ≡ sumOver (distinctBy same (x ∷ xs)) (λ y. times (x ∷ xs) y * f y)
+      total h = omega (arith, front, here, there, sumOver-split (same x) (distinctBy same xs) each)
+
+  -- how many elements pass a test, over the distinct ones
+  pub length-keepIf-distinct : (p : A → Bool) (xs : List A)
+      → length (keepIf p xs) ≡ sumOver (distinctBy same xs) (λ x. countIf (p x) (length (keepIf (same x) xs)))
+  length-keepIf-distinct p xs =
+      length-keepIf-sum p xs
+      ∙ sum-distinct xs (λ x. countIf (p x) 1)
+      ∙ sumOver-same (distinctBy same xs) _ _ (λ x. countIf-mul (p x) (times xs x) 1 ∙ ap (countIf (p x)) (mul-one (times xs x)))
+
+  -- an element more is a distinct one where it does not stand there yet
+  pub distinct-more : (xs : List A) (x : A) → distinctBy same (xs ++ (x ∷ [])) ≡ distinctBy same xs ++ consIf (not (anyPass (same x) xs)) x []
+  distinct-more [] x = refl
+  distinct-more (y ∷ ys) x =
+      let p : A → Bool = λ z. not (same y z) in
+      ap (λ (r : List A). y ∷ keepIf p r) (distinct-more ys x)
+      ∙ ap (λ (r : List A). y ∷ r)
+      (keepIf-append p (distinctBy same ys) (consIf (not (anyPass (same x) ys)) x [])
+      ∙ ap (λ (r : List A). keepIf p (distinctBy same ys) ++ r)
+      (keepIf-consIf p (not (anyPass (same x) ys)) x []
+      ∙ ap (λ (b : Bool). consIf b x []) (both (anyPass (same x) ys) (same y x) (same x y) (same-sym same tells x y))))
+    where
+      both : (a b e : Bool) → e ≡ b → not a && not b ≡ not (e || a)
+      both true b true h = refl
+      both true b false h = refl
+      both false b true h = rw (sym h)
+      both false b false h = rw (sym h)
