@@ -1,7 +1,7 @@
 -- The worked cases of document 01 and some more, as one table about the definitions with one proof, by computation.
 -- An entry has what the definitions give on its left and what document 01 says on its right, worked out by hand (texts go through
 -- `ascii`, and one printout stands in numbers). Groups: cases 1 to 9; rows, order, trust and solutions; push; conditions; ceilings and
--- tallies; refusals and their places. Inputs are in hexadecimal. Printouts are computed by a form of `strikes` that works nothing
+-- tallies; totals; refusals and their places. Inputs are in hexadecimal. Printouts are computed by a form of `strikes` that works nothing
 -- out twice. Assumes nothing.
 use mathlib.Core.Path.{_≡_, refl, ap, _∙_}
 use mathlib.Core.Bool.{Bool, true, false, not, cond}
@@ -27,9 +27,11 @@ use Rattle.tsparql.specs.Reading.{nodeStep, readNodeIn, readNode, readQu
 use Rattle.tsparql.specs.Check.{refuse, noRefusal, passes, recordRefusal, recordsRefusal, tableRefusal}
 use Rattle.tsparql.specs.Check.{trustProjections, patternVariables, variablesRefusal, queryRefusal, check}
 use Rattle.tsparql.specs.Evaluate.{rowLength, trustWord, rowWords, capacity}
-use Rattle.tsparql.specs.Evaluate.{Evaluated, refusedWith, answeredWith, answer, evaluateOver}
+use Rattle.tsparql.specs.Evaluate.{Evaluated, refusedWith, answeredWith, answer, evaluateOver, evaluateUnless}
 use Rattle.tsparql.specs.Rewrite.{rewriting, rewriteRefusal, rewrite}
-use Rattle.tsparql.specs.Calls.{evaluateUntallied, ceilingOver, ceilingCall, Tally, tallied, run}
+use Rattle.tsparql.specs.Calls.{evaluateUntallied, ceilingOver, ceilingCall, Tally, tallied}
+use Rattle.tsparql.specs.Totals.{leastTrust, groups, totalsWords, totalsOver, totalsUntallied}
+use Rattle.tsparql.specs.Runs.{Request, TalliedCall, anEvaluation, aTotals, zeroTally, run}
 use Rattle.tsparql.specs.Strikes.{ascii, digits, decimal, rowLine, refusedLine, countsLine, report}
 use Rattle.tsparql.specs.Strikes.{factsLimit, programRows, strikes}
 use Rattle.tsparql.specs.Cardinality.{setCardinality}
@@ -149,10 +151,29 @@ rewritten q bytes = let r = rewrite q (replicate bytes 7) in r .refusal .number 
 fields : List ℕ → List ℕ
 fields t = let f = factOf (recordAt t 0) in f .subject ∷ f .predicate ∷ f .object ∷ trustWord (f .trust) ∷ []
 
--- answered and refused after evaluations of queries over W, from a tally
-tallies : Tally → List (List ℕ) → List ℕ
-tallies a qs = let b = run a (map (λ q. record { table = W; query = q; rowSpace = replicate 17 7 }) qs) in
-    b .answered ∷ b .refused ∷ []
+-- totals over W by a variable in so many words and into so many, all 7 at first: number, place, length, and the output at the end
+totalled : List ℕ → ℕ → ℕ → ℕ → List ℕ
+totalled q u words out = let x = totalsUntallied W q u (replicate words 7) (replicate out 7) in
+    x .refusal .number ∷ x .refusal .place ∷ x .size ∷ x .output
+
+-- their row space at the end
+totalledSpace : List ℕ → ℕ → ℕ → ℕ → List ℕ
+totalledSpace q u words out = totalsUntallied W q u (replicate words 7) (replicate out 7) .rowSpace
+
+-- a query over W in the space of one row
+request : List ℕ → Request
+request q = record { table = W; query = q; rowSpace = replicate 17 7 }
+
+-- an evaluation of it; totals by ?0 into so many words
+evaluation : List ℕ → TalliedCall
+evaluation q = anEvaluation (request q)
+
+totalsInto : ℕ → List ℕ → TalliedCall
+totalsInto out q = aTotals (request q) 0 (replicate out 7)
+
+-- answered and refused after calls, from a tally
+tallies : Tally → List TalliedCall → List ℕ
+tallies a cs = let b = run a cs in b .answered ∷ b .refused ∷ []
 
 -- a pattern of three slots
 triple : Slot → Slot → Slot → Pattern
@@ -350,9 +371,37 @@ figureCases =
     ∷ (ceilings W (hex "10 10" ++ (fifteen ++ (fifteen ++ fifteen))) gives 0 ∷ 0 ∷ 4294967295 ∷ [])
     ∷ (ceilings W (hex "10 10 10" ++ (fifteen ++ (fifteen ++ (fifteen ++ none)))) gives 0 ∷ 0 ∷ 0 ∷ [])
     -- tallies: answered, refused; a count that has stopped
-    ∷ (tallies (record { answered = 0; refused = 0 }) (hex "00" ∷ [] ∷ hex "00" ∷ []) gives 2 ∷ 1 ∷ [])
-    ∷ (tallies (record { answered = 4294967295; refused = 3 }) (hex "00" ∷ [] ∷ []) gives 4294967295 ∷ 4 ∷ [])
-    ∷ (tallies (record { answered = 3; refused = 4294967295 }) ([] ∷ []) gives 3 ∷ 4294967295 ∷ [])
+    ∷ (tallies zeroTally (evaluation (hex "00") ∷ evaluation [] ∷ evaluation (hex "00") ∷ []) gives 2 ∷ 1 ∷ [])
+    ∷ (tallies (record { answered = 4294967295; refused = 3 }) (evaluation (hex "00") ∷ evaluation [] ∷ []) gives 4294967295 ∷ 4 ∷ [])
+    ∷ (tallies (record { answered = 3; refused = 4294967295 }) (evaluation [] ∷ []) gives 3 ∷ 4294967295 ∷ [])
+    -- totals count once: answered; refused for the output alone
+    ∷ (tallies zeroTally (totalsInto 3 (hex "00") ∷ evaluation (hex "00") ∷ totalsInto 2 (hex "00") ∷ []) gives 2 ∷ 1 ∷ [])
+    ∷ []
+
+-- totals (request 1)
+totalsCases : List Case
+totalsCases =
+    -- each strike of A, and one word more; the second's sample is unknown
+    (totalled A 0 34 7 gives 0 ∷ 0 ∷ 6 ∷ 1 ∷ 1 ∷ 1800 ∷ 2 ∷ 1 ∷ 2001 ∷ 7 ∷ [])
+    -- B, A and B together by ?1: the free cells of A are a group between those of B, unknown since one of its rows is
+    ∷ (totalled (hex "30" ++ (B ++ (hex "30" ++ (A ++ B)))) 1 102 9 gives
+    0 ∷ 0 ∷ 9 ∷ 11 ∷ 2 ∷ 1900 ∷ 12 ∷ 2 ∷ 1200 ∷ 0 ∷ 2 ∷ 2001 ∷ [])
+    -- the least trust of a group that has two: 900 and 200
+    ∷ (totalled B 0 34 3 gives 0 ∷ 0 ∷ 3 ∷ 1 ∷ 2 ∷ 1200 ∷ [])
+    -- cells that project trust made: 800, and unknown
+    ∷ (totalled (hex "51" ++ A) 1 34 6 gives 0 ∷ 0 ∷ 6 ∷ 1050376 ∷ 1 ∷ 1800 ∷ 1050577 ∷ 1 ∷ 2001 ∷ [])
+    -- no rows
+    ∷ (totalled none 0 0 0 gives 0 ∷ 0 ∷ 0 ∷ [])
+    -- the variable is 16, and there is no room for the rows either: the row space is untouched
+    ∷ (totalled A 16 1 1 gives 10 ∷ 0 ∷ 0 ∷ 7 ∷ [])
+    ∷ (totalledSpace A 16 1 1 gives 7 ∷ [])
+    -- 7 comes before; 8 comes before the output's 10
+    ∷ (totalled (hex "50" ++ A) 16 1 1 gives 7 ∷ 0 ∷ 0 ∷ 7 ∷ [])
+    ∷ (totalled A 0 33 1 gives 8 ∷ 0 ∷ 0 ∷ 7 ∷ [])
+    ∷ (totalledSpace A 0 33 1 gives replicate 33 0)
+    -- an output a word too short is unchanged, and the row space has the row of the empty set
+    ∷ (totalled (hex "00") 3 18 2 gives 10 ∷ 3 ∷ 0 ∷ 7 ∷ 7 ∷ [])
+    ∷ (totalledSpace (hex "00") 3 18 2 gives replicate 16 0 ++ (2000 ∷ 0 ∷ []))
     ∷ []
 
 -- each refusal, and places
@@ -404,7 +453,7 @@ refusalCases =
     ∷ []
 
 pub cases : List Case
-cases = paperCases ++ (moreCases ++ (pushCases ++ (conditionCases ++ (figureCases ++ refusalCases))))
+cases = paperCases ++ (moreCases ++ (pushCases ++ (conditionCases ++ (figureCases ++ (totalsCases ++ refusalCases)))))
 
 -- ---- printouts, with nothing worked out twice
 
@@ -462,16 +511,16 @@ unfolding nibble nibbles inPairs hex W twoRecords lowAndHigh negative A B C none
 inputs = tt
 
 entries : Unit {0}
-unfolding evaluated checked ceilings rewritten fields tallies noRows bothRows worked reported quick expected
+unfolding evaluated checked ceilings rewritten fields totalled totalledSpace request evaluation totalsInto tallies noRows bothRows worked reported quick expected
 entries = tt
 
 sets : Unit {0}
 unfolding triple tupleLines setAB setTwice solutions tuples tupleRows
 sets = tt
 
-groups : Unit {0}
-unfolding paperCases moreCases pushCases conditionCases figureCases refusalCases cases
-groups = tt
+lists : Unit {0}
+unfolding paperCases moreCases pushCases conditionCases figureCases totalsCases refusalCases cases
+lists = tt
 
 rows : Unit {0}
 unfolding compatible mergeCells truthOn trueOn blocksOn stands rowsOf spaceOf pairsOf bindPattern matches choices least setRows
@@ -494,7 +543,7 @@ unfolding trustProjections patternVariables variablesRefusal queryRefusal check 
 calls = tt
 
 figures : Unit {0}
-unfolding matching product ceilingOf ceilingOver tallied run
+unfolding matching product ceilingOf ceilingOver tallied run evaluateUnless leastTrust groups totalsWords totalsOver
 figures = tt
 
 text : Unit {0}
@@ -503,7 +552,7 @@ text = tt
 
 -- every entry gives what it should
 quick-hold : map quick cases ≡ map expected cases
-unfolding inputs entries sets groups rows tables writers readers calls figures text
+unfolding inputs entries sets lists rows tables writers readers calls figures text
 quick-hold = refl
 
 pub cases-hold : map computed cases ≡ map expected cases

@@ -31,6 +31,8 @@ pub mod Cardinalities
 pub mod Solutions
 pub mod Published
 pub mod FreeVariables
+-- Totals
+pub mod TotalsLaws
 -- Text, and the table of cases
 pub mod TextLaws
 pub mod Cases

@@ -1,10 +1,8 @@
 -- The calls evaluate and ceiling as a caller sees them, and the tally (document 01, "Ceiling and tally").
--- The calls check and rewrite stand in Check and Rewrite. Assumes nothing.
-use mathlib.Core.Bool.{Bool, true, false, not, cond}
-use mathlib.Core.List.{List, [], _∷_}
+-- The calls check and rewrite stand in Check and Rewrite, runs of calls in Runs. Assumes nothing.
+use mathlib.Core.Bool.{Bool, true, false, cond}
+use mathlib.Core.List.{List}
 use Prim.Native.Nat.{ℕ, _+_, min}
-use lib.ListN.{length}
-use Rattle.tsparql.specs.Lists.{keepIf}
 use Rattle.tsparql.specs.Table.{View, wholeTable, factsIn}
 use Rattle.tsparql.specs.PatternSets.{least}
 use Rattle.tsparql.specs.Ceiling.{greatest32, productFigure, ceilingOf}
@@ -18,7 +16,7 @@ use Rattle.tsparql.specs.Evaluate.{Evaluated, evaluateOver}
 abbrev pub evaluateUntallied : List ℕ → List ℕ → List ℕ → Evaluated
 evaluateUntallied t s ws = evaluateOver least (wholeTable t) t s ws
 
--- how many evaluations were answered, and how many refused
+-- how many calls were answered, and how many refused
 pub record Tally : Type 0 where
   pub answered : ℕ
   pub refused : ℕ
@@ -44,31 +42,6 @@ pub record EvaluateAnswer : Type 0 where
 abbrev pub evaluate : Tally → List ℕ → List ℕ → List ℕ → EvaluateAnswer
 evaluate a t s ws =
     record { evaluated = evaluateUntallied t s ws; tally = tallied a (evaluateUntallied t s ws .refusal) }
-
--- ---- a run of evaluations, each given the tally that the last one gave back
-
-pub record Request : Type 0 where
-  pub table : List ℕ
-  pub query : List ℕ
-  pub rowSpace : List ℕ
-
-abbrev pub requestRefusal : Request → Refusal
-requestRefusal e = evaluateUntallied (e .table) (e .query) (e .rowSpace) .refusal
-
--- how many requests of a list are answered, and how many refused
-abbrev pub answeredCount : List Request → ℕ
-answeredCount es = length (keepIf (λ e. passes (requestRefusal e)) es)
-
-abbrev pub refusedCount : List Request → ℕ
-refusedCount es = length (keepIf (λ e. not (passes (requestRefusal e))) es)
-
-abbrev pub zeroTally : Tally
-zeroTally = record { answered = 0; refused = 0 }
-
--- the tally at the end of a run
-unfoldable pub run : Tally → List Request → Tally
-run a [] = a
-run a (e ∷ es) = run (evaluate a (e .table) (e .query) (e .rowSpace) .tally) es
 
 -- ---- ceiling
 

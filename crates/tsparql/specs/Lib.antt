@@ -1,4 +1,4 @@
--- The definitions of document 01, to be read in this order; the last file has those of document 000 that they are compared with. Each
+-- The definitions of documents 01 and 02, to be read in this order; the last file has those of document 000 that they are compared with. Each
 -- file says what it holds and where the rest is.
 pub mod Lists
 pub mod Values
@@ -17,6 +17,8 @@ pub mod Check
 pub mod Evaluate
 pub mod Rewrite
 pub mod Calls
+pub mod Totals
+pub mod Runs
 pub mod Demand3
 pub mod Strikes
 pub mod Cardinality

@@ -1,0 +1,307 @@
+-- Totals (specs/Totals.antt): the counts of all groups add up to the rows (`counts-add`), and each cell that a row has is in one group
+-- (`groups-once`). The call, case by case; beside an evaluation (`totals-beside`, of the calls `totals-evaluate`); and its tally
+-- (`totals-tally`). Assumes nothing.
+use mathlib.Core.Path.{_≡_, refl, sym, ap, _∙_}
+use mathlib.Core.Bool.{Bool, true, false}
+use mathlib.Core.List.{List, [], _∷_, _++_, map}
+use Prim.Native.Nat.{ℕ, suc, _+_, _*_, _/_, _≤_, _<_, min}
+use native.Mathlib.Nat.{mul-one}
+use native.Mathlib.Omega.{arith}
+use borrow.Author.Tests.{eqb-true, eqb-false, eq-eqb, ne-eqb, lt-ltb, le-ltb, leb-true, leb-false, ltb-true, ltb-false}
+use lib.Dec.{ltb, leb}
+use lib.ListN.{length, take, drop, length-map}
+use lib.Seq.{take-at, drop-at}
+use Rattle.tsparql.specs.Lists.{keepIf, sumOver, concatMap}
+use Rattle.tsparql.specs.Values.{Cell, Row, sameCell}
+use Rattle.tsparql.specs.Table.{View, wholeTable, factsIn}
+use Rattle.tsparql.specs.PatternSets.{Aggregate, least, rowsOver}
+use Rattle.tsparql.specs.Reading.{queryNode}
+use Rattle.tsparql.specs.Check.{Refusal, refuse, noRefusal, Passes, passes, check}
+use Rattle.tsparql.specs.Evaluate.{Evaluated, refusedWith, evaluateOver}
+use Rattle.tsparql.specs.Calls.{Tally, raiseOne, tallied, evaluate}
+use Rattle.tsparql.specs.Totals.{Group, cellOf, differentCells, rowsWith, groupOf, groups, groupLength, groupWords, totalsWords}
+use Rattle.tsparql.specs.Totals.{countsIn, Totals, variableRefusal, outputRefusal, totalsAfter, totalsOver, totalsCall, TotalsBeside}
+use Rattle.tsparql.proofs.ListLaws.{every-of, keepIf-map}
+use Rattle.tsparql.proofs.SumLaws.{sumOver-same, length-sum, keepIf-distinct, sum-distinct}
+use Rattle.tsparql.proofs.Cardinalities.{cell-same}
+use Rattle.tsparql.proofs.RefusalLaws.{orElse-first, orElse-second}
+use Rattle.tsparql.proofs.EvaluateLaws.{evaluate-checked, evaluate-refused, evaluate-answered}
+use Rattle.tsparql.proofs.EvaluateLaws.{unless-none, unless-checked, unless-refused}
+
+-- ---- groups
+
+abbrev pub groupCount : Group → ℕ
+groupCount x = x .count
+
+-- rows that have a cell, and cells
+count-rowsWith : (u : ℕ) (c : Cell) (rs : List Row) → length (rowsWith u c rs) ≡ length (keepIf (sameCell c) (map (cellOf u) rs))
+count-rowsWith u c rs =
+    sym (ap length (keepIf-map (sameCell c) (cellOf u) rs) ∙ length-map (rowsWith u c rs) (cellOf u))
+
+sumOver-map : {A B : Type 0} (f : B → ℕ) (h : A → B) (xs : List A) → sumOver (map h xs) f ≡ sumOver xs (λ x. f (h x))
+sumOver-map f h [] = refl
+sumOver-map f h (x ∷ xs) = ap (λ (n : ℕ). f (h x) + n) (sumOver-map f h xs)
+
+-- the counts of all groups add up to the rows
+pub counts-add : (u : ℕ) (rs : List Row) → sumOver (groups u rs) groupCount ≡ length rs
+unfolding groups
+counts-add u rs =
+    let cs = map (cellOf u) rs in
+    sumOver-map groupCount (groupOf u rs) (differentCells u rs)
+    ∙ sumOver-same (differentCells u rs) (λ c. length (rowsWith u c rs)) (λ c. length (keepIf (sameCell c) cs) * 1)
+    (λ c. count-rowsWith u c rs ∙ sym (mul-one (length (keepIf (sameCell c) cs))))
+    ∙ sym (sum-distinct sameCell cell-same cs (λ _. 1))
+    ∙ sym (length-sum cs)
+    ∙ length-map rs (cellOf u)
+
+length-take-one : {A : Type 0} (xs : List A) → length (take 1 xs) ≡ min 1 (length xs)
+length-take-one [] = refl
+length-take-one (x ∷ xs) = omega arith
+
+-- the groups of a cell: one if a row has the cell, else none
+pub groups-once : (u : ℕ) (c : Cell) (rs : List Row)
+    → length (keepIf (λ x. sameCell c (x .cell)) (groups u rs)) ≡ min 1 (length (rowsWith u c rs))
+unfolding groups
+groups-once u c rs =
+    let cs = map (cellOf u) rs in
+    ap length (keepIf-map (λ x. sameCell c (x .cell)) (groupOf u rs) (differentCells u rs))
+    ∙ length-map (keepIf (sameCell c) (differentCells u rs)) (groupOf u rs)
+    ∙ ap length (keepIf-distinct sameCell cell-same c cs)
+    ∙ length-take-one (keepIf (sameCell c) cs)
+    ∙ ap (min 1) (sym (count-rowsWith u c rs))
+
+-- ---- entries
+
+pub length-groupsWords : (gs : List Group) → length (concatMap groupWords gs) ≡ groupLength * length gs
+length-groupsWords [] = refl
+length-groupsWords (x ∷ gs) = omega (arith, length-groupsWords gs)
+
+countsIn-groups : (gs : List Group) (rest : List ℕ) → countsIn (length gs) (concatMap groupWords gs ++ rest) ≡ sumOver gs groupCount
+unfolding countsIn
+countsIn-groups [] rest = refl
+countsIn-groups (x ∷ gs) rest = ap (λ (n : ℕ). x .count + n) (countsIn-groups gs rest)
+
+-- the counts of entries, whatever stands behind them, add up to the rows
+pub counts-entries : (u : ℕ) (rs : List Row) (rest : List ℕ)
+    → countsIn (length (totalsWords u rs) / groupLength) (totalsWords u rs ++ rest) ≡ length rs
+unfolding totalsWords
+counts-entries u rs rest =
+    let gs = groups u rs in
+    let n : length (concatMap groupWords gs) / 3 ≡ length gs = omega (arith, length-groupsWords gs) in
+    rw n (countsIn-groups gs rest ∙ counts-add u rs)
+
+-- ---- the call
+
+-- nothing is written
+abbrev pub totalsRefused : Refusal → List ℕ → List ℕ → Totals
+totalsRefused r ws out = record { refusal = r; size = 0; rowSpace = ws; output = out }
+
+-- the entries stand at the front of the output
+abbrev pub totalsWritten : List ℕ → List ℕ → List ℕ → Totals
+totalsWritten es ws out = record { refusal = noRefusal; size = length es; rowSpace = ws; output = es ++ drop (length es) out }
+
+module _ (es out : List ℕ) (e : Evaluated) where
+  -- after an evaluation that is refused
+  pub after-refused : (Passes (e .refusal) → ⊥) → totalsAfter e es out ≡ totalsRefused (e .refusal) (e .rowSpace) out
+  after-refused h = rw (orElse-first (e .refusal) (outputRefusal es out) h, ne-eqb (e .refusal .number) 0 h)
+
+  -- after one that is answered, with an output that is too short
+  pub after-short : Passes (e .refusal) → length out < length es
+      → totalsAfter e es out ≡ totalsRefused (refuse 10 (length es)) (e .rowSpace) out
+  after-short z h = rw (orElse-second (e .refusal) (outputRefusal es out) z, lt-ltb (length out) (length es) h)
+
+  -- and with one that is long enough
+  pub after-written : Passes (e .refusal) → length es ≤ length out → totalsAfter e es out ≡ totalsWritten es (e .rowSpace) out
+  after-written z h = rw (orElse-second (e .refusal) (outputRefusal es out) z, le-ltb (length out) (length es) h)
+
+module _ (g : Aggregate) (v : View) (t s : List ℕ) (u : ℕ) (ws out : List ℕ) where
+  abbrev es : List ℕ
+  es = totalsWords u (rowsOver g (factsIn v t) (queryNode s))
+
+  -- what the check refuses
+  pub totals-checked : (Passes (check t s) → ⊥) → totalsOver g v t s u ws out ≡ totalsRefused (check t s) ws out
+  unfolding totalsOver
+  totals-checked h =
+      let is = unless-checked (variableRefusal u) g v t s ws h ∙ evaluate-refused g v t s ws h in
+      rw is (after-refused es out (refusedWith (check t s) ws) h)
+
+  -- a variable above 15
+  pub totals-variable : Passes (check t s) → 15 < u → totalsOver g v t s u ws out ≡ totalsRefused (refuse 10 0) ws out
+  unfolding totalsOver
+  totals-variable z l =
+      let own : variableRefusal u ≡ refuse 10 0 = rw (lt-ltb 15 u l) in
+      let no : Passes (variableRefusal u) → ⊥ = λ p. let y : _≡_ {A = ℕ} 10 0 = rw own at p in omega arith in
+      let is = unless-refused (variableRefusal u) g v t s ws z no ∙ ap (λ (r : Refusal). refusedWith r ws) own in
+      rw is
+
+  -- a variable up to 15: the totals after the evaluation
+  pub totals-evaluated : u ≤ 15 → totalsOver g v t s u ws out ≡ totalsAfter (evaluateOver g v t s ws) es out
+  unfolding totalsOver
+  totals-evaluated l =
+      let none : variableRefusal u ≡ noRefusal = rw (le-ltb 15 u l) in
+      rw (unless-none (variableRefusal u) g v t s ws (ap (λ r. r .number) none))
+
+-- ---- beside an evaluation
+
+module _ (t s : List ℕ) (u : ℕ) (rs : List Row) (ws out : List ℕ) where
+  abbrev own : List ℕ
+  own = totalsWords u rs
+
+  -- the check refuses
+  beside-checked : (ws′ : List ℕ) → (Passes (check t s) → ⊥)
+      → TotalsBeside t s u rs ws out (totalsRefused (check t s) ws out) (refusedWith (check t s) ws′)
+  beside-checked ws′ h =
+      record {
+        as-checked = λ _. refl;
+        variable-above = λ z _. absurd (h z);
+        as-evaluated = λ _ _. refl;
+        output-short = λ _ z _. absurd (h z);
+        answered = λ _ z _. absurd (h z);
+        entries-written = λ z. absurd (h z);
+        counts-add-up = λ z. absurd (h z);
+        in-one-group = λ c. groups-once u c rs;
+        rest-unchanged = refl;
+        none-written = λ _. (refl, refl);
+        space-as-evaluated = λ z _. absurd (h z);
+        space-as-checked = λ _. refl;
+        space-untouched = λ _. refl;
+      }
+
+  -- the variable is above 15
+  beside-variable : (e : Evaluated) → Passes (check t s) → 15 < u
+      → TotalsBeside t s u rs ws out (totalsRefused (refuse 10 0) ws out) e
+  beside-variable e z l =
+      record {
+        as-checked = λ h. absurd (h z);
+        variable-above = λ _ _. refl;
+        as-evaluated = λ k _. absurd (omega arith);
+        output-short = λ k _ _. absurd (omega arith);
+        answered = λ k _ _. absurd (omega arith);
+        entries-written = λ p. absurd (let y : _≡_ {A = ℕ} 10 0 = p in omega arith);
+        counts-add-up = λ p. absurd (let y : _≡_ {A = ℕ} 10 0 = p in omega arith);
+        in-one-group = λ c. groups-once u c rs;
+        rest-unchanged = refl;
+        none-written = λ _. (refl, refl);
+        space-as-evaluated = λ _ k. absurd (omega arith);
+        space-as-checked = λ _. refl;
+        space-untouched = λ _. refl;
+      }
+
+  module _ (e : Evaluated) (z : Passes (check t s)) (l : u ≤ 15) where
+    -- the evaluation is refused
+    beside-refused : (Passes (e .refusal) → ⊥) → TotalsBeside t s u rs ws out (totalsRefused (e .refusal) (e .rowSpace) out) e
+    beside-refused h =
+        record {
+          as-checked = λ k. absurd (k z);
+          variable-above = λ _ k. absurd (omega arith);
+          as-evaluated = λ _ _. refl;
+          output-short = λ _ p _. absurd (h p);
+          answered = λ _ p _. absurd (h p);
+          entries-written = λ p. absurd (h p);
+          counts-add-up = λ p. absurd (h p);
+          in-one-group = λ c. groups-once u c rs;
+          rest-unchanged = refl;
+          none-written = λ _. (refl, refl);
+          space-as-evaluated = λ _ _. refl;
+          space-as-checked = λ k. absurd (k z);
+          space-untouched = λ k. absurd (omega arith);
+        }
+
+    -- the output is too short
+    beside-short : Passes (e .refusal) → length out < length own
+        → TotalsBeside t s u rs ws out (totalsRefused (refuse 10 (length own)) (e .rowSpace) out) e
+    beside-short p h =
+        record {
+          as-checked = λ k. absurd (k z);
+          variable-above = λ _ k. absurd (omega arith);
+          as-evaluated = λ _ k. absurd (k p);
+          output-short = λ _ _ _. refl;
+          answered = λ _ _ k. absurd (omega arith);
+          entries-written = λ k. absurd (let y : _≡_ {A = ℕ} 10 0 = k in omega arith);
+          counts-add-up = λ k. absurd (let y : _≡_ {A = ℕ} 10 0 = k in omega arith);
+          in-one-group = λ c. groups-once u c rs;
+          rest-unchanged = refl;
+          none-written = λ _. (refl, refl);
+          space-as-evaluated = λ _ _. refl;
+          space-as-checked = λ k. absurd (k z);
+          space-untouched = λ k. absurd (omega arith);
+        }
+
+    -- the entries are written
+    beside-written : Passes (e .refusal) → e .rows ≡ length rs → length own ≤ length out
+        → TotalsBeside t s u rs ws out (totalsWritten own (e .rowSpace) out) e
+    beside-written p rows h =
+        record {
+          as-checked = λ k. absurd (k z);
+          variable-above = λ _ k. absurd (omega arith);
+          as-evaluated = λ _ k. absurd (k p);
+          output-short = λ _ _ k. absurd (omega arith);
+          answered = λ _ _ _. refl;
+          entries-written = λ _. take-at own (drop (length own) out) (length own) refl;
+          counts-add-up = λ _. counts-entries u rs (drop (length own) out) ∙ sym rows;
+          in-one-group = λ c. groups-once u c rs;
+          rest-unchanged = drop-at own (drop (length own) out) (length own) refl;
+          none-written = λ k. absurd (k refl);
+          space-as-evaluated = λ _ _. refl;
+          space-as-checked = λ k. absurd (k z);
+          space-untouched = λ k. absurd (omega arith);
+        }
+
+    beside-after : (Passes (e .refusal) → e .rows ≡ length rs) → TotalsBeside t s u rs ws out (totalsAfter e own out) e
+    beside-after rows = go (passes (e .refusal)) refl (ltb (length out) (length own)) refl
+      where
+        go : (a : Bool) → passes (e .refusal) ≡ a → (b : Bool) → ltb (length out) (length own) ≡ b
+            → TotalsBeside t s u rs ws out (totalsAfter e own out) e
+        go false d b f = let h = eqb-false (e .refusal .number) 0 d in rw (after-refused own out e h) (beside-refused h)
+        go true d true f =
+            let p = eqb-true (e .refusal .number) 0 d in
+            let h = ltb-true (length out) (length own) f in
+            rw (after-short own out e p h) (beside-short p h)
+        go true d false f =
+            let p = eqb-true (e .refusal .number) 0 d in
+            let h = ltb-false (length out) (length own) f in
+            rw (after-written own out e p h) (beside-written p (rows p) h)
+
+-- what request 1 asks, of any aggregate and view: the totals beside an evaluation in a row space of the same length
+pub totals-beside : (g : Aggregate) (v : View) (t s : List ℕ) (u : ℕ) (ws ws′ out : List ℕ) → length ws ≡ length ws′
+    → TotalsBeside t s u (rowsOver g (factsIn v t) (queryNode s)) ws out (totalsOver g v t s u ws out) (evaluateOver g v t s ws′)
+totals-beside g v t s u ws ws′ out same = go (passes (check t s)) refl (ltb 15 u) refl
+  where
+    rs : List Row
+    rs = rowsOver g (factsIn v t) (queryNode s)
+
+    alike : Passes (check t s) → evaluateOver g v t s ws ≡ evaluateOver g v t s ws′
+    alike z = evaluate-checked g v t s ws z ∙ rw same (sym (evaluate-checked g v t s ws′ z))
+
+    rows : Passes (evaluateOver g v t s ws′ .refusal) → evaluateOver g v t s ws′ .rows ≡ length rs
+    rows p = ap (λ e. e .rows) (evaluate-answered g v t s ws′ p .answer-is)
+
+    go : (a : Bool) → passes (check t s) ≡ a → (b : Bool) → ltb 15 u ≡ b
+        → TotalsBeside t s u rs ws out (totalsOver g v t s u ws out) (evaluateOver g v t s ws′)
+    go false d b f =
+        let h = eqb-false (check t s .number) 0 d in
+        rw (totals-checked g v t s u ws out h, evaluate-refused g v t s ws′ h) (beside-checked t s u rs ws out ws′ h)
+    go true d true f =
+        let z = eqb-true (check t s .number) 0 d in
+        let l = ltb-true 15 u f in
+        rw (totals-variable g v t s u ws out z l) (beside-variable t s u rs ws out (evaluateOver g v t s ws′) z l)
+    go true d false f =
+        let z = eqb-true (check t s .number) 0 d in
+        let l = ltb-false 15 u f in
+        let is = totals-evaluated g v t s u ws out l ∙ ap (λ e. totalsAfter e (totalsWords u rs) out) (alike z) in
+        rw is (beside-after t s u rs ws out (evaluateOver g v t s ws′) z l rows)
+
+-- of the calls, with any two tallies
+pub totals-evaluate : (t s : List ℕ) (u : ℕ) (ws ws′ out : List ℕ) (a b : Tally) → length ws ≡ length ws′
+    → TotalsBeside t s u (rowsOver least (factsIn (wholeTable t) t) (queryNode s)) ws out
+    (totalsCall t s u ws out a .totals) (evaluate b t s ws′ .evaluated)
+totals-evaluate t s u ws ws′ out a b same = totals-beside least (wholeTable t) t s u ws ws′ out same
+
+-- the tally is raised once: as answered where nothing is refused, as refused on any refusal
+pub totals-tally : (t s : List ℕ) (u : ℕ) (ws out : List ℕ) (a : Tally)
+    → let x = totalsCall t s u ws out a in
+    (Passes (x .totals .refusal) → x .tally ≡ raiseOne true a) × ((Passes (x .totals .refusal) → ⊥) → x .tally ≡ raiseOne false a)
+unfolding tallied
+totals-tally t s u ws out a =
+    let r = totalsOver least (wholeTable t) t s u ws out .refusal in
+    (λ z. rw (eq-eqb (r .number) 0 z), λ z. rw (ne-eqb (r .number) 0 z))
