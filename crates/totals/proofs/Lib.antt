@@ -1,0 +1,5 @@
+-- The laws that the functions' proofs cite.
+pub mod GroupLaws
+pub mod ChainLaws
+pub mod NumberLaws
+pub mod EntryLaws

@@ -1,0 +1,17 @@
+-- By the test. Assumes nothing.
+use borrow.Author.Tests.{eq-eqb, ne-eqb}
+use borrow.Author.Needs.{needs}
+use Rattle.totals.proofs.in_use.Statement.{statement}
+use Rattle.totals.proofs.in_use.Tie as tie
+
+add-result : tie.Need-add-result
+add-result c = search needs
+
+returns : tie.Need-returns
+returns c = rw (eq-eqb _ _ (c .if1 .taken))
+
+returns-2 : tie.Need-returns-2
+returns-2 c = rw (ne-eqb _ _ (c .if1 .left))
+
+pub in-use-spec : {M : Type 1} → statement M
+in-use-spec = tie.close (tie.spec add-result returns returns-2)
