@@ -20,7 +20,7 @@ extern "C" {
 
 /* The version of this header. The first number rises where a declared call changes or goes, the second where one comes. */
 #define RANDWYLER_VERSION_MAJOR 1
-#define RANDWYLER_VERSION_MINOR 0
+#define RANDWYLER_VERSION_MINOR 1
 
 /* Sizes of tables and queries. */
 #define RANDWYLER_RECORD_BYTES 9
@@ -38,6 +38,10 @@ extern "C" {
 #define RANDWYLER_UNKNOWN_TRUST 2001         /* a row's trust where it is unknown */
 #define RANDWYLER_FIRST_TRUST_CELL 1048576   /* a cell below is a term, or 0 if it is free; any other is a row's trust and so much */
 #define RANDWYLER_UNKNOWN_TRUST_CELL 1050577 /* a cell with an unknown trust: the sum of the two above */
+
+/* Sizes of the output of totals. */
+#define RANDWYLER_GROUP_WORDS 3            /* of an entry: a cell, a count, a trust */
+#define RANDWYLER_MOST_TOTALS_WORDS 196605 /* an output of so many words holds all entries, one for each of 65,535 rows */
 
 /* Why a call refuses its inputs, and where. Both are 0 if nothing is refused. The numbers have the names below, with RANDWYLER_ in
  * front. Later versions may have more: treat a number that you do not know as a refusal.
@@ -58,9 +62,12 @@ extern "C" {
  *                             second project trust, anywhere in the query                       whose variable is used so
  *   8       NO_ROOM           the evaluation needs more rows of row space than the capacity     0
  *   9       OUTPUT_TOO_SHORT  the output is shorter than the result                             the length needed
+ *   10      BAD_TOTALS        totals: the variable is above 15                                  0
+ *                             totals: the output is shorter than the entries                    the words needed, 3 or more
  *
  * If several apply, the table's come before the query's, and a lower number before a higher one. But the table's records
- * are tested one after the other: a 4 of one record comes before a 3 of a later record.
+ * are tested one after the other: a 4 of one record comes before a 3 of a later record. And a 10 for the variable comes
+ * before 8.
  */
 #define RANDWYLER_ANSWERED 0 /* nothing is refused */
 #define RANDWYLER_TABLE_LENGTH 1
@@ -72,6 +79,7 @@ extern "C" {
 #define RANDWYLER_VARIABLE_CLASH 7
 #define RANDWYLER_NO_ROOM 8
 #define RANDWYLER_OUTPUT_TOO_SHORT 9
+#define RANDWYLER_BAD_TOTALS 10
 
 struct randwyler_refusal {
     uint32_t number;
@@ -86,6 +94,7 @@ struct randwyler_refusal {
 #define RANDWYLER_STACK_REWRITE_KIB 272
 #define RANDWYLER_STACK_CEILING_KIB 800
 #define RANDWYLER_STACK_EVALUATE_KIB 1024
+#define RANDWYLER_STACK_TOTALS_KIB 1024
 
 /* Tests a table, and a query of at most 5,120 bytes; the refusals are 1 to 7. Two read-only slices are lent: no byte of them,
  * and no other memory, is written. */
@@ -115,7 +124,7 @@ struct randwyler_ceiling {
  * that match single patterns. Takes what randwyler_check takes, and refuses what it refuses. Nothing is written. */
 struct randwyler_ceiling randwyler_ceiling_of(const uint8_t *table, size_t table_len, const uint8_t *query, size_t query_len);
 
-/* Counts of evaluations. A count that has reached 4,294,967,295 stays there. */
+/* Counts of calls that take it, evaluations and totals. A count that has reached 4,294,967,295 stays there. */
 struct randwyler_tally {
     uint32_t answered;
     uint32_t refused;
@@ -141,6 +150,25 @@ struct randwyler_evaluated {
  * call has no influence. Table and query are not written. */
 struct randwyler_evaluated randwyler_evaluate(const uint8_t *table, size_t table_len, const uint8_t *query, size_t query_len,
                                               uint32_t *space, size_t space_len, struct randwyler_tally tally);
+
+/* Why totals are refused, and where, as in struct randwyler_refusal; how many words of the output the entries take, 0 on a refusal;
+ * and the tally that was given, with answered or refused raised by 1, refused on any refusal. */
+struct randwyler_totalled {
+    uint32_t number;
+    uint64_t place;
+    uint64_t length;
+    struct randwyler_tally tally;
+};
+
+/* Evaluates as randwyler_evaluate does, and then writes an entry of 3 words to the front of the output for each different cell that
+ * the rows have for a variable, in order of first appearance: the cell as it stands in the rows, 0 if free; how many rows have it; the
+ * least of their trusts as it stands in a row, 2001 if one of them is unknown. The counts add up to the rows. The refusals are 1 to 7,
+ * 10 for a variable above 15, 8, and 10 for an output shorter than the entries. Refusals 1 to 7 and 10 for the variable leave the row
+ * space unchanged; else it ends as after the evaluation, also where the output is too short. The output's words behind the entries are
+ * not written; on a refusal none is. */
+struct randwyler_totalled randwyler_totals_of(const uint8_t *table, size_t table_len, const uint8_t *query, size_t query_len,
+                                              uint32_t variable, uint32_t *space, size_t space_len, uint32_t *output,
+                                              size_t output_len, struct randwyler_tally tally);
 
 #ifdef __cplusplus
 }

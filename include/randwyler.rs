@@ -6,7 +6,7 @@
 
 // The header's version of these declarations.
 pub const VERSION_MAJOR: u32 = 1;
-pub const VERSION_MINOR: u32 = 0;
+pub const VERSION_MINOR: u32 = 1;
 
 // Sizes of tables and queries.
 pub const RECORD_BYTES: usize = 9;
@@ -36,6 +36,12 @@ pub const FIRST_TRUST_CELL: u32 = 1_048_576;
 /// A cell with an unknown trust: the sum of the two above.
 pub const UNKNOWN_TRUST_CELL: u32 = 1_050_577;
 
+// Sizes of the output of totals.
+/// Of an entry: a cell, a count, a trust.
+pub const GROUP_WORDS: usize = 3;
+/// An output of so many words holds all entries, one for each of 65,535 rows.
+pub const MOST_TOTALS_WORDS: usize = 196_605;
+
 // The numbers of refusals; the header's table says what they mean.
 pub const ANSWERED: u32 = 0;
 pub const TABLE_LENGTH: u32 = 1;
@@ -47,6 +53,7 @@ pub const MALFORMED: u32 = 6;
 pub const VARIABLE_CLASH: u32 = 7;
 pub const NO_ROOM: u32 = 8;
 pub const OUTPUT_TOO_SHORT: u32 = 9;
+pub const BAD_TOTALS: u32 = 10;
 
 // KiB of stack to give a call: what the deepest queries that were tried need (25 shapes; for evaluation 21 more), and a margin. That no
 // other query needs more is not proved.
@@ -54,6 +61,7 @@ pub const STACK_CHECK_KIB: usize = 800;
 pub const STACK_REWRITE_KIB: usize = 272;
 pub const STACK_CEILING_KIB: usize = 800;
 pub const STACK_EVALUATE_KIB: usize = 1024;
+pub const STACK_TOTALS_KIB: usize = 1024;
 
 /// Why a call refuses its inputs, and where; both are 0 if nothing is refused.
 #[repr(C)]
@@ -81,7 +89,7 @@ pub struct Ceiling {
     pub ceiling: u32,
 }
 
-/// Counts of evaluations.
+/// Counts of evaluations and totals.
 #[repr(C)]
 #[derive(Clone, Copy, Debug, Default, PartialEq, Eq)]
 pub struct Tally {
@@ -101,9 +109,19 @@ pub struct Evaluated {
     pub tally: Tally,
 }
 
+/// The same of totals, how many words the entries take, and the tally with one of the two raised.
+#[repr(C)]
+#[derive(Clone, Copy, Debug, PartialEq, Eq)]
+pub struct Totalled {
+    pub number: u32,
+    pub place: u64,
+    pub length: u64,
+    pub tally: Tally,
+}
+
 /// The calls as they are exported.
 pub mod raw {
-    use super::{Ceiling, Evaluated, Refusal, Rewritten, Tally};
+    use super::{Ceiling, Evaluated, Refusal, Rewritten, Tally, Totalled};
 
     extern "C" {
         pub fn randwyler_check(table: *const u8, table_len: usize, query: *const u8, query_len: usize) -> Refusal;
@@ -118,6 +136,18 @@ pub mod raw {
             space_len: usize,
             tally: Tally,
         ) -> Evaluated;
+        pub fn randwyler_totals_of(
+            table: *const u8,
+            table_len: usize,
+            query: *const u8,
+            query_len: usize,
+            variable: u32,
+            space: *mut u32,
+            space_len: usize,
+            output: *mut u32,
+            output_len: usize,
+            tally: Tally,
+        ) -> Totalled;
     }
 }
 
@@ -140,4 +170,13 @@ pub fn evaluate(table: &[u8], query: &[u8], space: &mut [u32], tally: Tally) -> 
     let (words, length) = (space.as_mut_ptr(), space.len());
     // SAFETY: the pointers and lengths are those of slices; table and query are only read, and the space is lent to be written.
     unsafe { raw::randwyler_evaluate(table.as_ptr(), table.len(), query.as_ptr(), query.len(), words, length, tally) }
+}
+
+pub fn totals_of(table: &[u8], query: &[u8], variable: u32, space: &mut [u32], output: &mut [u32], tally: Tally) -> Totalled {
+    let (words, length) = (space.as_mut_ptr(), space.len());
+    let (entries, room) = (output.as_mut_ptr(), output.len());
+    // SAFETY: the pointers and lengths are those of slices; table and query are only read, space and output are lent to be written.
+    unsafe {
+        raw::randwyler_totals_of(table.as_ptr(), table.len(), query.as_ptr(), query.len(), variable, words, length, entries, room, tally)
+    }
 }

@@ -1,4 +1,7 @@
--- The laws that the calls' proofs cite.
+-- The laws that the calls' proofs cite; demand 3 and the requests on the calls.
 pub mod Checks
 pub mod Evaluations
+pub mod AnsweredRows
+pub mod TotalsAnswers
 pub mod Demand3
+pub mod Requests

@@ -5,15 +5,18 @@ use mathlib.Core.List.{List}
 use Prim.Native.Nat.{ℕ}
 use lib.ListN.{length}
 use Rattle.tsparql.specs.Table as Table
-use Rattle.tsparql.specs.Table.{wholeTable, factsIn}
+use Rattle.tsparql.specs.Table.{Fact, wholeTable, factsIn}
+use Rattle.tsparql.specs.Query.{Node}
 use Rattle.tsparql.specs.Check as Check
 use Rattle.tsparql.specs.Check.{refuse, noRefusal, Passes, passes, check}
 use Rattle.tsparql.specs.Rewrite as Rewrite
 use Rattle.tsparql.specs.Calls as Calls
 use Rattle.tsparql.specs.Calls.{raiseOne, tallied}
+use Rattle.tsparql.specs.Totals as Totals
+use Rattle.tsparql.specs.Totals.{totalsWords, totalsAfter}
 use Rattle.tsparql.specs.Evaluate as Evaluate
 use Rattle.tsparql.specs.Evaluate.{refusedWith, answer}
-use Rattle.tsparql.specs.PatternSets.{least}
+use Rattle.tsparql.specs.PatternSets.{least, rowsOver}
 use Rattle.tsparql.specs.Reading.{queryNode}
 use Rattle.table.specs.Answers.{noRecords}
 use Rattle.randwyler.specs.declared.CheckAnswer.{CheckAnswer}
@@ -23,6 +26,7 @@ use Rattle.randwyler.specs.declared.Rewritten.{Rewritten}
 use Rattle.randwyler.specs.declared.Ceiling.{Ceiling}
 use Rattle.randwyler.specs.declared.Tally.{Tally}
 use Rattle.randwyler.specs.declared.Evaluated.{Evaluated}
+use Rattle.randwyler.specs.declared.Totalled.{Totalled}
 
 -- ---- the check of both
 
@@ -87,3 +91,31 @@ abbrev pub Answered : Table.View → List ℕ → List ℕ → Calls.Tally → L
 Answered v t s a ws out r =
     let e : Evaluate.Evaluated = answer least (factsIn v t) (queryNode s) (length ws) in
     evaluatedIn r out ≡ record { evaluated = e; tally = tallied a (e .refusal) }
+
+-- ---- totals
+
+-- refusal and length of an answer, with the row space and the output at the end, and the tally
+abbrev pub totalsIn : Totalled → List ℕ → List ℕ → Totals.TotalsAnswer
+totalsIn r ws out =
+    record {
+      totals = record { refusal = refuse (r .number) (r .place); size = r .length; rowSpace = ws; output = out };
+      tally = tallyIn (r .tally);
+    }
+
+-- a refusal with length 0, counted as refused
+abbrev pub noTotals : ℕ → ℕ → List ℕ → List ℕ → Calls.Tally → Totals.TotalsAnswer
+noTotals n p ws out a =
+    record { totals = record { refusal = refuse n p; size = 0; rowSpace = ws; output = out }; tally = raiseOne false a }
+
+-- such an answer; row space and output are whatever they are
+abbrev pub TotalsRefused : ℕ → ℕ → Calls.Tally → Totalled → Type 0
+TotalsRefused n p a r = (ws out : List ℕ) → totalsIn r ws out ≡ noTotals n p ws out a
+
+-- the totals of a checked query in so many words of row space, counted by their refusal
+abbrev pub totalsChecked : List Fact → Node → ℕ → ℕ → List ℕ → Calls.Tally → Totals.TotalsAnswer
+totalsChecked fs q u words out a =
+    let x : Totals.Totals = totalsAfter (answer least fs q words) (totalsWords u (rowsOver least fs q)) out in
+    record { totals = x; tally = tallied a (x .refusal) }
+
+abbrev pub TotalsAnswered : Table.View → List ℕ → List ℕ → ℕ → List ℕ → List ℕ → Calls.Tally → List ℕ → List ℕ → Totalled → Type 0
+TotalsAnswered v t s u ws out a ws′ out′ r = totalsIn r ws′ out′ ≡ totalsChecked (factsIn v t) (queryNode s) u (length ws) out a

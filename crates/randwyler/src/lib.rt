@@ -3,10 +3,13 @@ ghost use mathlib.Core.Path.{_≡_};
 ghost use Rattle.tsparql.specs.Check.{refuse, check};
 ghost use Rattle.tsparql.specs.Rewrite as Rewrite;
 ghost use mathlib.Core.Bool.{true, false};
+ghost use Prim.Native.Nat.{_<_};
 ghost use Rattle.tsparql.specs.Calls.{ceilingCall, ceilingRefused, raised, raiseOne, evaluate};
+ghost use Rattle.tsparql.specs.Totals.{totalsCall};
 ghost use Rattle.patterns.specs.Matching.{viewOf};
 ghost use Rattle.randwyler.specs.Answers.{Checked, refusalIn, rewrittenIn, ceilingIn};
 ghost use Rattle.randwyler.specs.Answers.{tallyIn, evaluatedIn, RefusedWith, Ready, Answered};
+ghost use Rattle.randwyler.specs.Answers.{totalsIn, TotalsRefused, TotalsAnswered};
 use ceiling::CeilingRead;
 use ceiling::ceiling_node;
 use evaluation::QueryRows;
@@ -18,6 +21,7 @@ use scope::check_query;
 use table::TableAnswer;
 use table::View;
 use table::check_table;
+use totals::total_rows;
 
 // The most bytes of a query that is evaluated.
 const EVALUATE_LIMIT: usize = 5120;
@@ -139,7 +143,7 @@ pub extern "C" fn randwyler_ceiling_of(table: &[u8], query: &[u8]) -> Ceiling
 
 // ---- evaluation
 
-// How many evaluations were answered, and how many refused; each stops at 4,294,967,295.
+// How many calls that take it were answered, and how many refused; each stops at 4,294,967,295.
 #[repr(C)]
 pub struct Tally {
     pub answered: u32,
@@ -238,5 +242,95 @@ pub extern "C" fn randwyler_evaluate(
     match c {
         CheckAnswer::Refused { number, place } => evaluation_refused(number, place, tally),
         CheckAnswer::Sound(view) => evaluate_checked(table, view, query, space, tally),
+    }
+}
+
+// ---- totals
+
+// The greatest variable.
+const LAST_VARIABLE: u32 = 15;
+
+// A refusal, or how many words of the output the entries take; what does not apply is 0. The tally comes back with one of its two raised.
+#[repr(C)]
+pub struct Totalled {
+    pub number: u32,
+    pub place: u64,
+    pub length: u64,
+    pub tally: Tally,
+}
+
+// A refusal is counted as refused.
+fn totals_refused(number: u32, place: usize, a: Tally) -> Totalled
+    ensures { λ r. ⌜ TotalsRefused number place (tallyIn a) r ⌝ }
+{
+    let tally = with_refused(a);
+    Totalled {
+        number,
+        place: place as u64,
+        length: 0,
+        tally,
+    }
+}
+
+// The totals of a checked query, counted in the tally.
+fn totals_checked(
+    table: &[u8],
+    view: View,
+    query: &[u8],
+    variable: usize,
+    space: &mut [u32],
+    output: &mut [u32],
+    tally: Tally,
+) -> Totalled
+    requires { ⌜ Ready (viewOf view) (now table) (now query) × (variable < 16) ⌝ }
+    ensures { λ r. ⌜ TotalsAnswered (viewOf view) (now (table .entry)) (now (query .entry)) variable
+        (now (space .entry)) (now (output .entry)) (tallyIn tally) (now (space .exit)) (now (output .exit)) r ⌝ }
+{
+    let a = answer(table, view, query, space);
+    match a {
+        QueryRows::Refused { number, place } => totals_refused(number, place, tally),
+        QueryRows::Rows {
+            rows,
+            peak: _,
+            pairs: _,
+        } => {
+            let words = total_rows(space, rows as usize, variable, output);
+            if output.len() < words {
+                return totals_refused(10, words, tally);
+            }
+            Totalled {
+                number: NO_REFUSAL,
+                place: 0,
+                length: words as u64,
+                tally: with_answered(tally),
+            }
+        }
+    }
+}
+
+// For each different cell of a variable in the rows of an evaluation, an entry of 3 words in a lent output: the cell, how many rows have
+// it, their least trust. Refusals 1 to 7, 10 for the variable, 8, and 10 for an output that is too short. The row space ends as after
+// the evaluation; past the entries, and on a refusal, the output is unchanged.
+#[no_mangle]
+pub extern "C" fn randwyler_totals_of(
+    table: &[u8],
+    query: &[u8],
+    variable: u32,
+    space: &mut [u32],
+    output: &mut [u32],
+    tally: Tally,
+) -> Totalled
+    ensures { λ r. ⌜ totalsIn r (now (space .exit)) (now (output .exit)) ≡ totalsCall (now (table .entry)) (now (query .entry))
+        variable (now (space .entry)) (now (output .entry)) (tallyIn tally) ⌝ }
+{
+    let c = check_both(table, query);
+    match c {
+        CheckAnswer::Refused { number, place } => totals_refused(number, place, tally),
+        CheckAnswer::Sound(view) => {
+            if variable > LAST_VARIABLE {
+                return totals_refused(10, 0, tally);
+            }
+            totals_checked(table, view, query, variable as usize, space, output, tally)
+        }
     }
 }

@@ -1,0 +1,50 @@
+-- The rows of an answered query in the row space: as many as told, at most 65,535, at the front and well-formed. What a call does with
+-- rows, it does with these. Assumes nothing.
+use mathlib.Core.Path.{_≡_, sym, ap, _∙_}
+use mathlib.Core.List.{List}
+use Prim.Native.Nat.{ℕ, _*_, _≤_}
+use native.Mathlib.Omega.{arith}
+use lib.ListN.{length, take}
+use lib.Seq.{take-at}
+use Rattle.tsparql.specs.Lists.{Every, concatMap}
+use Rattle.tsparql.specs.Values.{Row}
+use Rattle.tsparql.specs.Query.{Node}
+use Rattle.tsparql.specs.Table.{Fact}
+use Rattle.tsparql.specs.PatternSets.{least, setRows, rowsOver}
+use Rattle.tsparql.specs.Check.{Passes}
+use Rattle.tsparql.specs.Evaluate.{rowLength, rowWords, answer, answeredWith}
+use Rattle.tsparql.proofs.SpaceLaws.{count-space-≤}
+use Rattle.tsparql.proofs.EvaluateLaws.{answer-fits, answer-passes}
+use Rattle.rows.specs.RowWords.{rowsIn, RowFormed, RowsHeld, Front}
+use Rattle.rows.proofs.RowWordLaws.{length-written, front-rows, front-held}
+use Rattle.evaluation.specs.Evaluations.{Answers}
+use Rattle.evaluation.specs.declared.QueryRows.the-variants as Q
+
+module _ {fs : List Fact} {q : Node} {words : ℕ} {out : List ℕ} {n p k : ℕ} (formed : Every RowFormed (rowsOver least fs q))
+    (a : Answers fs q words out (Q.Rows n p k)) where
+  abbrev rs : List Row
+  rs = rowsOver least fs q
+
+  passed : Passes (answer least fs q words .refusal)
+  passed = ap (λ e. e .refusal .number) (sym (a .answer-is))
+
+  answered-is : answer least fs q words ≡ answeredWith least fs q words
+  answered-is = answer-fits least fs q words (answer-passes least fs q words passed)
+
+  pub answered-count : n ≡ length rs
+  answered-count = ap (λ e. e .rows) (a .answer-is ∙ answered-is)
+
+  pub answered-few : n ≤ 65535
+  answered-few =
+      omega (arith, answered-count, count-space-≤ (setRows least fs) q, answer-passes least fs q words passed)
+
+  front : Front rs out
+  front =
+      ap (take (rowLength * length rs)) (ap (λ e. e .rowSpace) (a .answer-is ∙ answered-is))
+      ∙ take-at (concatMap rowWords rs) _ (rowLength * length rs) (length-written rs formed)
+
+  pub answered-rows : rowsIn n out ≡ rs
+  answered-rows = rw answered-count (front-rows rs out formed front)
+
+  pub answered-held : RowsHeld n out
+  answered-held = rw answered-count (front-held rs out formed front)
