@@ -25,7 +25,7 @@ extern "C" {
 /* Sizes of tables and queries. */
 #define RANDWYLER_RECORD_BYTES 9
 #define RANDWYLER_MOST_RECORDS 65535
-#define RANDWYLER_MOST_QUERY_BYTES 5120         /* of a query to check, to evaluate or to give the ceiling of */
+#define RANDWYLER_MOST_QUERY_BYTES 5120         /* of a query to check, to evaluate, or to give the ceiling or totals of */
 #define RANDWYLER_MOST_REWRITE_QUERY_BYTES 1024 /* of a query to rewrite */
 #define RANDWYLER_MOST_RESULT_BYTES 5120        /* an output of so many bytes holds every result of a rewriting */
 #define RANDWYLER_MOST_CEILING 4294967295       /* ceilings are cut here */
@@ -40,8 +40,8 @@ extern "C" {
 #define RANDWYLER_UNKNOWN_TRUST_CELL 1050577 /* a cell with an unknown trust: the sum of the two above */
 
 /* Sizes of the output of totals. */
-#define RANDWYLER_GROUP_WORDS 3            /* of an entry: a cell, a count, a trust */
-#define RANDWYLER_MOST_TOTALS_WORDS 196605 /* an output of so many words holds all entries, one for each of 65,535 rows */
+#define RANDWYLER_GROUP_WORDS 3            /* of the entry of a group of rows: their cell, their count, their least trust */
+#define RANDWYLER_MOST_TOTALS_WORDS 196605 /* an output of so many words holds all entries of any totals: one each for 65,535 rows */
 
 /* Why a call refuses its inputs, and where. Both are 0 if nothing is refused. The numbers have the names below, with RANDWYLER_ in
  * front. Later versions may have more: treat a number that you do not know as a refusal.
@@ -61,13 +61,12 @@ extern "C" {
  *   7       VARIABLE_CLASH    the variable of a project trust is used by a pattern or by a      the byte of the first project trust
  *                             second project trust, anywhere in the query                       whose variable is used so
  *   8       NO_ROOM           the evaluation needs more rows of row space than the capacity     0
- *   9       OUTPUT_TOO_SHORT  the output is shorter than the result                             the length needed
+ *   9       OUTPUT_TOO_SHORT  rewriting: the output is shorter than the result                  the bytes needed
  *   10      BAD_TOTALS        totals: the variable is above 15                                  0
- *                             totals: the output is shorter than the entries                    the words needed, 3 or more
+ *                             totals: the output is shorter than the entries                    the words needed, never 0
  *
  * If several apply, the table's come before the query's, and a lower number before a higher one. But the table's records
- * are tested one after the other: a 4 of one record comes before a 3 of a later record. And a 10 for the variable comes
- * before 8.
+ * are tested one after the other: a 4 of one record comes before a 3 of a later record. And 10 at place 0 comes before 8.
  */
 #define RANDWYLER_ANSWERED 0 /* nothing is refused */
 #define RANDWYLER_TABLE_LENGTH 1
@@ -88,8 +87,8 @@ struct randwyler_refusal {
 
 /* KiB of stack to give a call, answered or refused: what the deepest queries that were tried need, and a margin. They are chains of
  * each operator, and of each condition that has operands, as long as the call accepts (25 shapes; for evaluation 21 more, with a
- * join of many pairs). tests/archive/run measures what they need, and fails if it is more than these. That no other query
- * needs more is not proved. */
+ * join of many pairs; for totals those of evaluation). tests/archive/run measures what they need, and fails if it is more than
+ * these. That no other query needs more is not proved. */
 #define RANDWYLER_STACK_CHECK_KIB 800
 #define RANDWYLER_STACK_REWRITE_KIB 272
 #define RANDWYLER_STACK_CEILING_KIB 800
@@ -124,7 +123,7 @@ struct randwyler_ceiling {
  * that match single patterns. Takes what randwyler_check takes, and refuses what it refuses. Nothing is written. */
 struct randwyler_ceiling randwyler_ceiling_of(const uint8_t *table, size_t table_len, const uint8_t *query, size_t query_len);
 
-/* Counts of calls that take it, evaluations and totals. A count that has reached 4,294,967,295 stays there. */
+/* Counts of the calls that it is handed to, evaluations and totals together. A count that has reached 4,294,967,295 stays there. */
 struct randwyler_tally {
     uint32_t answered;
     uint32_t refused;
@@ -151,8 +150,8 @@ struct randwyler_evaluated {
 struct randwyler_evaluated randwyler_evaluate(const uint8_t *table, size_t table_len, const uint8_t *query, size_t query_len,
                                               uint32_t *space, size_t space_len, struct randwyler_tally tally);
 
-/* Why totals are refused, and where, as in struct randwyler_refusal; how many words of the output the entries take, 0 on a refusal;
- * and the tally that was given, with answered or refused raised by 1, refused on any refusal. */
+/* Why totals are refused, and where, as in struct randwyler_refusal; and how many words of the output the entries take, 0 on a
+ * refusal and where there are no rows; and the tally that was given, with answered raised by 1, or refused on any refusal. */
 struct randwyler_totalled {
     uint32_t number;
     uint64_t place;
@@ -160,12 +159,15 @@ struct randwyler_totalled {
     struct randwyler_tally tally;
 };
 
-/* Evaluates as randwyler_evaluate does, and then writes an entry of 3 words to the front of the output for each different cell that
- * the rows have for a variable, in order of first appearance: the cell as it stands in the rows, 0 if free; how many rows have it; the
- * least of their trusts as it stands in a row, 2001 if one of them is unknown. The counts add up to the rows. The refusals are 1 to 7,
- * 10 for a variable above 15, 8, and 10 for an output shorter than the entries. Refusals 1 to 7 and 10 for the variable leave the row
- * space unchanged; else it ends as after the evaluation, also where the output is too short. The output's words behind the entries are
- * not written; on a refusal none is. */
+/* Evaluates as randwyler_evaluate does, and groups the rows by their cell of a variable, 0 to 15; the rows in which it is free are a
+ * group too. Writes an entry of 3 words for each group to the front of the output, in the order of the groups' first rows:
+ *   cell   as in these rows; 0 if free
+ *   count  how many rows the group has; the sum of all counts is the evaluation's rows
+ *   trust  the least trust of these rows, as in a row; RANDWYLER_UNKNOWN_TRUST if the trust of one of them is unknown
+ * The refusals, in this order, are 1 to 7; 10 at place 0 for the variable; 8; and 10 at the words needed for the output. 1 to 7, and 10
+ * at place 0, leave the row space unchanged. Else it ends as randwyler_evaluate leaves it, even if the output is too short. The output's
+ * words behind the entries are not written; on a refusal none is. There are no more groups than rows, so an output of 3 words for each
+ * row of the capacity always does. Table and query are not written. */
 struct randwyler_totalled randwyler_totals_of(const uint8_t *table, size_t table_len, const uint8_t *query, size_t query_len,
                                               uint32_t variable, uint32_t *space, size_t space_len, uint32_t *output,
                                               size_t output_len, struct randwyler_tally tally);

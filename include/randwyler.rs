@@ -11,7 +11,7 @@ pub const VERSION_MINOR: u32 = 1;
 // Sizes of tables and queries.
 pub const RECORD_BYTES: usize = 9;
 pub const MOST_RECORDS: usize = 65_535;
-/// Of a query to check, to evaluate or to give the ceiling of.
+/// Of a query to check, to evaluate, or to give the ceiling or totals of.
 pub const MOST_QUERY_BYTES: usize = 5_120;
 /// Of a query to rewrite.
 pub const MOST_REWRITE_QUERY_BYTES: usize = 1_024;
@@ -37,9 +37,9 @@ pub const FIRST_TRUST_CELL: u32 = 1_048_576;
 pub const UNKNOWN_TRUST_CELL: u32 = 1_050_577;
 
 // Sizes of the output of totals.
-/// Of an entry: a cell, a count, a trust.
+/// Of the entry of a group of rows: their cell, their count, their least trust.
 pub const GROUP_WORDS: usize = 3;
-/// An output of so many words holds all entries, one for each of 65,535 rows.
+/// An output of so many words holds all entries of any totals: one each for 65,535 rows.
 pub const MOST_TOTALS_WORDS: usize = 196_605;
 
 // The numbers of refusals; the header's table says what they mean.
@@ -55,8 +55,8 @@ pub const NO_ROOM: u32 = 8;
 pub const OUTPUT_TOO_SHORT: u32 = 9;
 pub const BAD_TOTALS: u32 = 10;
 
-// KiB of stack to give a call: what the deepest queries that were tried need (25 shapes; for evaluation 21 more), and a margin. That no
-// other query needs more is not proved.
+// KiB of stack to give a call: what the deepest queries that were tried need (25 shapes; for evaluation 21 more, and for totals the
+// same), and a margin. That no other query needs more is not proved.
 pub const STACK_CHECK_KIB: usize = 800;
 pub const STACK_REWRITE_KIB: usize = 272;
 pub const STACK_CEILING_KIB: usize = 800;
@@ -89,7 +89,7 @@ pub struct Ceiling {
     pub ceiling: u32,
 }
 
-/// Counts of evaluations and totals.
+/// Counts of evaluations and totals together.
 #[repr(C)]
 #[derive(Clone, Copy, Debug, Default, PartialEq, Eq)]
 pub struct Tally {
@@ -172,11 +172,27 @@ pub fn evaluate(table: &[u8], query: &[u8], space: &mut [u32], tally: Tally) -> 
     unsafe { raw::randwyler_evaluate(table.as_ptr(), table.len(), query.as_ptr(), query.len(), words, length, tally) }
 }
 
-pub fn totals_of(table: &[u8], query: &[u8], variable: u32, space: &mut [u32], output: &mut [u32], tally: Tally) -> Totalled {
-    let (words, length) = (space.as_mut_ptr(), space.len());
-    let (entries, room) = (output.as_mut_ptr(), output.len());
+pub fn totals_of(
+    table: &[u8],
+    query: &[u8],
+    variable: u32,
+    space: &mut [u32],
+    output: &mut [u32],
+    tally: Tally,
+) -> Totalled {
     // SAFETY: the pointers and lengths are those of slices; table and query are only read, space and output are lent to be written.
     unsafe {
-        raw::randwyler_totals_of(table.as_ptr(), table.len(), query.as_ptr(), query.len(), variable, words, length, entries, room, tally)
+        raw::randwyler_totals_of(
+            table.as_ptr(),
+            table.len(),
+            query.as_ptr(),
+            query.len(),
+            variable,
+            space.as_mut_ptr(),
+            space.len(),
+            output.as_mut_ptr(),
+            output.len(),
+            tally,
+        )
     }
 }

@@ -1,4 +1,5 @@
-/* The engine in a program in C: checks a table and a query, and lists the rows of the query and of its rewriting.
+/* The engine in a program in C: checks a table and a query, lists the rows of the query and of its rewriting, and then a line for each
+ * strike: how many rows it has, and the least of their trusts.
  *
  *     embed FACTS QUERY
  *
@@ -11,6 +12,9 @@
 #include "randwyler.h"
 
 enum { LISTED = 0, REFUSED = 1, FAILED = 2 };
+
+/* The variable of the query whose cells are strikes. */
+enum { STRIKE = 0 };
 
 /* Bytes to lend. */
 struct slice {
@@ -31,8 +35,10 @@ static int print_refusal(uint32_t number, uint64_t place)
         [RANDWYLER_VARIABLE_CLASH] = "the variable of this project trust is used elsewhere: choose another one",
         [RANDWYLER_NO_ROOM] = "the query needs more rows than any row space has: narrow it",
         [RANDWYLER_OUTPUT_TOO_SHORT] = "the output is too short: lend so many bytes",
+        [RANDWYLER_BAD_TOTALS] = "the output is too short: lend so many words",
     };
     const char *what = number < sizeof advice / sizeof *advice ? advice[number] : "unknown number";
+    if (number == RANDWYLER_BAD_TOTALS && place == 0) what = "the variable is above 15: choose another one";
     printf("refused %" PRIu32 " at %" PRIu64 ": %s\n", number, place, what);
     return REFUSED;
 }
@@ -44,18 +50,36 @@ static void print_trust(uint32_t word)
     else printf("%d", (int)word - RANDWYLER_TRUST_ZERO);
 }
 
+static void print_cell(uint32_t variable, uint32_t cell)
+{
+    printf("?%" PRIu32, variable);
+    if (cell == 0) {
+        fputs(" free", stdout);
+    } else if (cell < RANDWYLER_FIRST_TRUST_CELL) {
+        printf("=%" PRIu32, cell);
+    } else {
+        fputs("=t", stdout);
+        print_trust(cell - RANDWYLER_FIRST_TRUST_CELL);
+    }
+}
+
 static void print_row(const uint32_t *row)
 {
     print_trust(row[RANDWYLER_VARIABLES]);
-    for (int v = 0; v < RANDWYLER_VARIABLES; v++) {
+    for (uint32_t v = 0; v < RANDWYLER_VARIABLES; v++) {
         if (row[v] == 0) continue;
-        if (row[v] < RANDWYLER_FIRST_TRUST_CELL) {
-            printf(" ?%d=%" PRIu32, v, row[v]);
-        } else {
-            printf(" ?%d=t", v);
-            print_trust(row[v] - RANDWYLER_FIRST_TRUST_CELL);
-        }
+        putchar(' ');
+        print_cell(v, row[v]);
     }
+    putchar('\n');
+}
+
+/* An entry of totals by a variable. */
+static void print_entry(uint32_t variable, const uint32_t *entry)
+{
+    print_cell(variable, entry[0]);
+    printf(": rows %" PRIu32 " least trust ", entry[1]);
+    print_trust(entry[2]);
     putchar('\n');
 }
 
@@ -82,6 +106,22 @@ static int list(struct slice table, struct slice query, size_t rows, struct rand
     }
 }
 
+/* Lists totals by a variable, in the most rows, with an output that is never too short. */
+static void list_totals(struct slice table, struct slice query, uint32_t variable, struct randwyler_tally *tally)
+{
+    static uint32_t space[RANDWYLER_MOST_ROWS * RANDWYLER_ROW_WORDS], output[RANDWYLER_MOST_TOTALS_WORDS];
+    struct randwyler_totalled answer = randwyler_totals_of(table.bytes, table.length, query.bytes, query.length, variable,
+                                                           space, RANDWYLER_MOST_ROWS * RANDWYLER_ROW_WORDS,
+                                                           output, RANDWYLER_MOST_TOTALS_WORDS, *tally);
+    *tally = answer.tally;
+    if (answer.number != RANDWYLER_ANSWERED) {
+        print_refusal(answer.number, answer.place);
+        return;
+    }
+    printf("groups %" PRIu64 "\n", answer.length / RANDWYLER_GROUP_WORDS);
+    for (uint64_t i = 0; i < answer.length; i += RANDWYLER_GROUP_WORDS) print_entry(variable, output + i);
+}
+
 /* As many rows as the ceiling says, for a first row space: one at least, and no more than are ever used. */
 static size_t first_rows(uint32_t ceiling)
 {
@@ -106,10 +146,15 @@ static int run(struct slice table, struct slice query)
     struct randwyler_rewritten rewritten = randwyler_rewrite(query.bytes, query.length, output, sizeof output);
     fputs("rewriting: ", stdout);
     if (rewritten.number == RANDWYLER_ANSWERED) {
-        status = list(table, (struct slice){output, (size_t)rewritten.length}, rows, &tally);
+        query = (struct slice){output, (size_t)rewritten.length};
+        status = list(table, query, rows, &tally);
     } else {
         print_refusal(rewritten.number, rewritten.place);
     }
+
+    /* Of the rewriting, or of the query if it is too long to be rewritten. */
+    fputs("totals: ", stdout);
+    list_totals(table, query, STRIKE, &tally);
     printf("tally: answered %" PRIu32 " refused %" PRIu32 "\n", tally.answered, tally.refused);
     return status;
 }

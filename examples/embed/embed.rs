@@ -1,5 +1,5 @@
-//! The engine in a program in Rust: checks a table and a query, and lists the rows of the query and of its rewriting, which are
-//! evaluated on a thread each.
+//! The engine in a program in Rust: checks a table and a query, lists the rows of the query and of its rewriting, which are evaluated on
+//! a thread each, and then a line for each strike: how many rows it has, and the least of their trusts.
 //!
 //!     embed FACTS QUERY
 //!
@@ -9,13 +9,17 @@
 mod randwyler;
 
 use randwyler::{Evaluated, Tally, ANSWERED, NO_ROOM, STACK_EVALUATE_KIB};
-use randwyler::{FIRST_TRUST_CELL, MOST_RESULT_BYTES, MOST_ROWS, ROW_WORDS, TRUST_ZERO, UNKNOWN_TRUST, VARIABLES};
+use randwyler::{FIRST_TRUST_CELL, GROUP_WORDS, MOST_RESULT_BYTES, MOST_ROWS, MOST_TOTALS_WORDS};
+use randwyler::{ROW_WORDS, TRUST_ZERO, UNKNOWN_TRUST, VARIABLES};
 use std::process::ExitCode;
 use std::{env, fs, thread};
 
 const LISTED: u8 = 0;
 const REFUSED: u8 = 1;
 const FAILED: u8 = 2;
+
+/// The variable of the query whose cells are strikes.
+const STRIKE: u32 = 0;
 
 /// A refusal, and what to do about it.
 fn refusal(number: u32, place: u64) -> String {
@@ -29,6 +33,8 @@ fn refusal(number: u32, place: u64) -> String {
         randwyler::VARIABLE_CLASH => "the variable of this project trust is used elsewhere: choose another one",
         randwyler::NO_ROOM => "the query needs more rows than any row space has: narrow it",
         randwyler::OUTPUT_TOO_SHORT => "the output is too short: lend so many bytes",
+        randwyler::BAD_TOTALS if place == 0 => "the variable is above 15: choose another one",
+        randwyler::BAD_TOTALS => "the output is too short: lend so many words",
         _ => "unknown number",
     };
     format!("refused {number} at {place}: {advice}")
@@ -43,13 +49,19 @@ fn trust(word: u32) -> String {
     }
 }
 
+fn bound(variable: u32, cell: u32) -> String {
+    match cell {
+        0 => format!("?{variable} free"),
+        term if term < FIRST_TRUST_CELL => format!("?{variable}={term}"),
+        cell => format!("?{variable}=t{}", trust(cell - FIRST_TRUST_CELL)),
+    }
+}
+
 fn line(row: &[u32]) -> String {
     let mut line = trust(row[VARIABLES]);
-    for (variable, cell) in row[..VARIABLES].iter().enumerate() {
-        match *cell {
-            0 => {}
-            term if term < FIRST_TRUST_CELL => line += &format!(" ?{variable}={term}"),
-            cell => line += &format!(" ?{variable}=t{}", trust(cell - FIRST_TRUST_CELL)),
+    for (variable, cell) in (0..).zip(&row[..VARIABLES]) {
+        if *cell != 0 {
+            line += &format!(" {}", bound(variable, *cell));
         }
     }
     line
@@ -80,6 +92,21 @@ fn list(what: &str, (answer, space): &(Evaluated, Vec<u32>)) -> u8 {
         println!("{}", line(row));
     }
     LISTED
+}
+
+/// Prints totals by a variable, in the most rows, with an output that is never too short. Gives the tally back.
+fn list_totals(table: &[u8], query: &[u8], variable: u32, tally: Tally) -> Tally {
+    let (mut space, mut output) = (vec![0; MOST_ROWS * ROW_WORDS], vec![0; MOST_TOTALS_WORDS]);
+    let answer = randwyler::totals_of(table, query, variable, &mut space, &mut output, tally);
+    if answer.number != ANSWERED {
+        println!("totals: {}", refusal(answer.number, answer.place));
+        return answer.tally;
+    }
+    println!("totals: groups {}", answer.length as usize / GROUP_WORDS);
+    for entry in output[..answer.length as usize].chunks(GROUP_WORDS) {
+        println!("{}: rows {} least trust {}", bound(variable, entry[0]), entry[1], trust(entry[2]));
+    }
+    answer.tally
 }
 
 fn run(table: &[u8], query: &[u8]) -> u8 {
@@ -118,6 +145,10 @@ fn run(table: &[u8], query: &[u8]) -> u8 {
         }
         None => println!("rewriting: {}", refusal(rewritten.number, rewritten.place)),
     }
+
+    // Of the rewriting, or of the query if it is too long to be rewritten.
+    let totalled = if rewritten.number == ANSWERED { result } else { query };
+    tally = list_totals(table, totalled, STRIKE, tally);
     println!("tally: answered {} refused {}", tally.answered, tally.refused);
     status
 }
