@@ -1,19 +1,22 @@
 -- What the requests of document 02 ask, on the calls: whatever they answer, by their promises alone. Request 1: totals beside an
--- evaluation (`totals-calls`). Assumes nothing.
+-- evaluation (`totals-calls`), and of a rewriting (`totals-rewritten-calls`). Assumes nothing.
 use mathlib.Core.Path.{_≡_, sym, ap, subst, _∙_}
 use mathlib.Core.List.{List}
 use Prim.Native.Nat.{ℕ}
-use lib.ListN.{length}
+use lib.ListN.{length, take}
 use Rattle.tsparql.specs.Table.{wholeTable, factsIn}
 use Rattle.tsparql.specs.PatternSets.{least, rowsOver}
 use Rattle.tsparql.specs.Reading.{queryNode}
+use Rattle.tsparql.specs.Rewrite.{rewrite, Accepted, written}
 use Rattle.tsparql.specs.Calls.{evaluate}
-use Rattle.tsparql.specs.Totals.{totalsCall, TotalsBeside}
-use Rattle.tsparql.proofs.TotalsLaws.{totals-evaluate}
+use Rattle.tsparql.specs.Totals.{totalsUntallied, totalsCall, TotalsBeside}
+use Rattle.tsparql.proofs.ChoiceLaws.{least-sound}
+use Rattle.tsparql.proofs.TotalsLaws.{totals-evaluate, totals-rewritten}
+use Rattle.randwyler.specs.declared.Rewritten.{Rewritten}
 use Rattle.randwyler.specs.declared.Evaluated.{Evaluated}
 use Rattle.randwyler.specs.declared.Tally.{Tally}
 use Rattle.randwyler.specs.declared.Totalled.{Totalled}
-use Rattle.randwyler.specs.Answers.{tallyIn, evaluatedIn, totalsIn}
+use Rattle.randwyler.specs.Answers.{rewrittenIn, tallyIn, evaluatedIn, totalsIn}
 
 -- totals of a query s over a table t by variable u, and an evaluation of it, in row spaces of one length with any contents, with any
 -- tallies
@@ -28,3 +31,19 @@ totals-calls t s u first first′ second second′ out out′ a b x e same total
     let one =
     subst (λ y. TotalsBeside t s u rs first out (y .totals) (evaluate (tallyIn b) t s second .evaluated)) (sym totals) base in
     subst (λ y. TotalsBeside t s u rs first out (totalsIn x first′ out′ .totals) (y .evaluated)) (sym query) one
+
+-- totals of a query s and of what was written for it, by one variable, into equal outputs and in row spaces of one length: where the
+-- first are answered, the second are the same
+pub totals-rewritten-calls : (t s result result′ : List ℕ) (r : Rewritten) → rewrittenIn r result′ ≡ rewrite s result → r .number ≡ 0
+    → (u : ℕ) (first first′ second second′ out out′ out″ : List ℕ) (a b : Tally) (x y : Totalled) → length first ≡ length second
+    → totalsIn x first′ out′ ≡ totalsCall t s u first out (tallyIn a)
+    → totalsIn y second′ out″ ≡ totalsCall t (take (r .length) result′) u second out (tallyIn b)
+    → x .number ≡ 0 → totalsIn y second′ out″ .totals ≡ totalsIn x first′ out′ .totals
+totals-rewritten-calls t s result result′ r rewritten zero u first first′ second second′ out out′ out″ a b x y same query pushed answered =
+    let accepted : Accepted s result = ap (λ w. w .refusal .number) (sym rewritten) ∙ zero in
+    let is : take (r .length) result′ ≡ written s result = ap (λ w. take (w .size) (w .output)) rewritten in
+    let passes = ap (λ w. w .totals .refusal .number) (sym query) ∙ answered in
+    ap (λ w. w .totals) pushed
+    ∙ ap (λ w. totalsUntallied t w u second out) is
+    ∙ totals-rewritten least least-sound (wholeTable t) t s u first second out result accepted same passes
+    ∙ ap (λ w. w .totals) (sym query)

@@ -1,21 +1,19 @@
 -- Totals by the answers of their parts: the answer to the checked query and the entries of its rows; then the check and the variable.
 -- Assumes nothing.
 use mathlib.Core.Path.{_≡_, sym, ap, _∙_}
-use mathlib.Core.Bool.{Bool, true, false, cond}
+use mathlib.Core.Bool.{true, false, cond}
 use mathlib.Core.List.{List}
 use Prim.Native.Nat.{ℕ, _≤_, _<_}
-use native.Mathlib.Omega.{arith}
 use borrow.Author.Tests.{eqb-false, le-leb, lt-leb}
 use lib.Dec.{leb}
 use lib.ListN.{length}
 use Rattle.tsparql.specs.Lists.{Every}
-use Rattle.tsparql.specs.Values.{Row}
 use Rattle.tsparql.specs.Query.{Node}
 use Rattle.tsparql.specs.Table.{Fact, View, wholeTable, factsIn}
 use Rattle.tsparql.specs.PatternSets.{least, rowsOver}
 use Rattle.tsparql.specs.Check.{refuse, noRefusal, Passes, passes, check}
 use Rattle.tsparql.specs.Reading.{queryNode}
-use Rattle.tsparql.specs.Evaluate.{Evaluated, answer}
+use Rattle.tsparql.specs.Evaluate.{answer}
 use Rattle.tsparql.specs.Calls.{Tally, raiseOne, tallied}
 use Rattle.tsparql.specs.Totals.{Totals, TotalsAnswer, totalsWords, totalsCall}
 use Rattle.tsparql.proofs.EvaluateLaws.{evaluate-checked}
@@ -41,7 +39,8 @@ totals-refused fs q u words a ws out {n} {p} e =
 
 -- it is answered, and the entries of its rows are told and, where they fit, written
 module _ {fs : List Fact} {q : Node} {words : ℕ} {ws : List ℕ} {n p k : ℕ} (u : ℕ) (a : Tally) (out : List ℕ) {out′ : List ℕ} {m : ℕ}
-    (formed : Every RowFormed (rowsOver least fs q)) (e : Answers fs q words ws (Q.Rows n p k)) (t : Entered u (rowsIn n ws) out out′ m) where
+    (formed : Every RowFormed (rowsOver least fs q)) (e : Answers fs q words ws (Q.Rows n p k))
+    (t : Entered u (rowsIn n ws) out out′ m) where
   abbrev es : List ℕ
   es = totalsWords u (rowsOver least fs q)
 

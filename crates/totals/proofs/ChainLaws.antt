@@ -25,7 +25,8 @@ chained-none u ws links h =
       linked = λ j l. absurd (omega arith);
     }
 
-module _ {u i : ℕ} {ws heads links : List ℕ} (h : i < mostRows) (c : Chained u i ws heads links) {own : ℕ} (own-is : own ≡ bucketAt u i ws) where
+module _ {u i : ℕ} {ws heads links : List ℕ} (h : i < mostRows) (c : Chained u i ws heads links) {own : ℕ}
+    (own-is : own ≡ bucketAt u i ws) where
   own-small : own < bucketCount
   own-small = omega (arith, own-is)
 
@@ -50,7 +51,11 @@ module _ {u i : ℕ} {ws heads links : List ℕ} (h : i < mostRows) (c : Chained
       head b l true e =
           let same = eqb-true own b e in
           rw (sym same, getD-set-same heads own (i + 1) 0 (rw (c .buckets) own-small))
-          (record { within = omega arith; hit = λ _. ap (λ (m : ℕ). bucketAt u m ws) back ∙ sym own-is; over = λ k p q _. absurd (omega arith) })
+          (record {
+            within = omega arith;
+            hit = λ _. ap (λ (m : ℕ). bucketAt u m ws) back ∙ sym own-is;
+            over = λ k p q _. absurd (omega arith);
+          })
       head b l false e =
           let differ = eqb-false own b e in
           let last = c .heads-last b l in

@@ -179,7 +179,8 @@ module _ {u n : ℕ} {ws first : List ℕ} {i k : ℕ} {out : List ℕ} (held : 
         ap (groups u) rows-more ∙ groups-old u rs r s (omega (arith, places)) place in
         let c : getD out (3 * s + 1) 0 + 1 ≡ y .count =
         ap (λ (m : ℕ). m + 1) (counted ∙ sym (ap (λ (x : Group). x .count) group-at)) in
-        let t : trustWord (lesser (wordTrust (getD out (3 * s + 2) 0)) (wordTrust (getD ws (rowLength * i + 16) 0))) ≡ trustWord (y .trust) =
+        let w = getD ws (rowLength * i + 16) 0 in
+        let t : trustWord (lesser (wordTrust (getD out (3 * s + 2) 0)) (wordTrust w)) ≡ trustWord (y .trust) =
         ap trustWord (ap₂ lesser trusted (sym trust-is)) in
         record {
           within = omega arith;

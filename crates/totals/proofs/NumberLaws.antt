@@ -50,7 +50,8 @@ module _ (u n : ℕ) (ws : List ℕ) (inside : u < 16) where
 -- ---- the different cells, one more
 
 -- what stood there stays at its place
-distinct-stays : (cs : List Cell) (c : Cell) (s : ℕ) (d e : Cell) → s < length (distinctBy sameCell cs) → getD (distinctBy sameCell cs) s d ≡ e
+distinct-stays : (cs : List Cell) (c : Cell) (s : ℕ) (d e : Cell) → s < length (distinctBy sameCell cs)
+    → getD (distinctBy sameCell cs) s d ≡ e
     → (s < length (distinctBy sameCell (cs ++ (c ∷ [])))) × (getD (distinctBy sameCell (cs ++ (c ∷ []))) s d ≡ e)
 distinct-stays cs c s d e h k = go (anyPass (sameCell c) cs) refl
   where
@@ -142,7 +143,8 @@ module _ {u : ℕ} {ws numbers : List ℕ} {i k : ℕ} (n : ℕ) (held : RowsHel
   -- the next number, where no row before has the cell
   numbering-new : ((m : ℕ) → m < i → wordOf u m ws ≡ wordOf u i ws → ⊥) → Numbering u ws (set numbers i k) (i + 1) (k + 1)
   numbering-new none =
-      let fresh : anyPass (sameCell c) cs ≡ false = anyPass-none (sameCell c) cs (every-each (λ d. sameCell c d ≡ false) cs free (λ m l. differs m (rw length-cells at l))) in
+      let other = every-each (λ d. sameCell c d ≡ false) cs free (λ m l. differs m (rw length-cells at l)) in
+      let fresh : anyPass (sameCell c) cs ≡ false = anyPass-none (sameCell c) cs other in
       let more = distinct-new cs c fresh in
       let long = length-append (distinctBy sameCell cs) (c ∷ []) in
       grown k

@@ -7,11 +7,9 @@ use mathlib.Core.Path.{_≡_, refl, sym, ap, ap₂, _∙_, fun-ext}
 use mathlib.Core.Bool.{Bool, true, false, _&&_, _||_, not, and-comm}
 use mathlib.Core.List.{List, [], _∷_, _++_, map}
 use Prim.Native.Nat.{ℕ, _+_, _*_}
-use native.Mathlib.Nat.{add-zero, zero-mul, mul-zero, mul-one, mul-add, suc-mul}
-use native.Mathlib.Omega.{arith}
-use lib.ListN.{length, take, set, length-append, length-map}
+use lib.ListN.{length, set, length-append, length-map}
 use lib.Seq.{set-set, set-getD}
-use borrow.Author.Tests.{eqb-true, eq-eqb, not-true}
+use borrow.Author.Tests.{eqb-true, eq-eqb}
 use Rattle.tsparql.specs.Lists.{Every, consIf, onlyIf, keepIf, allPass, sumOver, concatMap}
 use Rattle.tsparql.specs.Values.{Trust, known, unknown, Cell, free, term, trusted, Row, sameTrust, sameCell}
 use Rattle.tsparql.specs.Values.{compatible, merge, withTrust, trustInside}
@@ -23,8 +21,8 @@ use Rattle.tsparql.specs.Cardinality.{joinCardinality, filterCardinality
 use Rattle.tsparql.specs.Cardinality.{unionCardinality, projectCardinality, ensureCardinality}
 use Rattle.tsparql.proofs.ListLaws.{and-left, and-right, and-both, test-eq, every-of, every-weaken, allPass-keepIf}
 use Rattle.tsparql.proofs.ListLaws.{consIf-append, keepIf-append, keepIf-keepIf, keepIf-cong, keepIf-and}
-use Rattle.tsparql.proofs.ListLaws.{keepIf-none, keepIf-map, keepIf-concatMap}
-use Rattle.tsparql.proofs.SumLaws.{sumOver-add, sumOver-mul, sumOver-same, countIf-mul, countIf-split}
+use Rattle.tsparql.proofs.ListLaws.{keepIf-map, keepIf-concatMap}
+use Rattle.tsparql.proofs.SumLaws.{sumOver-add, sumOver-mul, sumOver-same, countIf-mul}
 use Rattle.tsparql.proofs.SumLaws.{TellsSame, same-of-eq, sum-distinct, length-keepIf-distinct}
 
 -- ---- tests and lists
@@ -220,7 +218,8 @@ pub cardinality-union : (xs ys : List Row) (r : Row) → cardinality (xs ++ ys) 
 cardinality-union xs ys r = cardinality-append xs ys r
 
 pub cardinality-project : (v : ℕ) (xs : List Row) (r : Row) → cardinality (map (withTrust v) xs) r ≡ projectCardinality v xs r
-cardinality-project v xs r = cardinality-map (withTrust v) xs r ∙ length-keepIf-distinct sameRow row-same (λ x. sameRow r (withTrust v x)) xs
+cardinality-project v xs r =
+    cardinality-map (withTrust v) xs r ∙ length-keepIf-distinct sameRow row-same (λ x. sameRow r (withTrust v x)) xs
 
 pub cardinality-ensure : (l u : ℕ) (xs : List Row) (r : Row) → cardinality (keepIf (trustInside l u) xs) r ≡ ensureCardinality l u xs r
 cardinality-ensure l u xs r = cardinality-keepIf (trustInside l u) xs r

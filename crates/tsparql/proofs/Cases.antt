@@ -511,8 +511,12 @@ unfolding nibble nibbles inPairs hex W twoRecords lowAndHigh negative A B C none
 inputs = tt
 
 entries : Unit {0}
-unfolding evaluated checked ceilings rewritten fields totalled totalledSpace request evaluation totalsInto tallies noRows bothRows worked reported quick expected
+unfolding evaluated checked ceilings rewritten fields noRows bothRows worked reported quick expected
 entries = tt
+
+callers : Unit {0}
+unfolding totalled totalledSpace request evaluation totalsInto tallies
+callers = tt
 
 sets : Unit {0}
 unfolding triple tupleLines setAB setTwice solutions tuples tupleRows
@@ -552,7 +556,7 @@ text = tt
 
 -- every entry gives what it should
 quick-hold : map quick cases ≡ map expected cases
-unfolding inputs entries sets lists rows tables writers readers calls figures text
+unfolding inputs entries callers sets lists rows tables writers readers calls figures text
 quick-hold = refl
 
 pub cases-hold : map computed cases ≡ map expected cases

@@ -183,7 +183,8 @@ module _ {A : Type 0} (same : A → A → Bool) (tells : TellsSame same) where
       ∙ sumOver-same (distinctBy same xs) _ _ (λ x. countIf-mul (p x) (times xs x) 1 ∙ ap (countIf (p x)) (mul-one (times xs x)))
 
   -- an element more is a distinct one where it does not stand there yet
-  pub distinct-more : (xs : List A) (x : A) → distinctBy same (xs ++ (x ∷ [])) ≡ distinctBy same xs ++ consIf (not (anyPass (same x) xs)) x []
+  pub distinct-more : (xs : List A) (x : A)
+      → distinctBy same (xs ++ (x ∷ [])) ≡ distinctBy same xs ++ consIf (not (anyPass (same x) xs)) x []
   distinct-more [] x = refl
   distinct-more (y ∷ ys) x =
       let p : A → Bool = λ z. not (same y z) in

@@ -10,7 +10,8 @@ use Rattle.tsparql.specs.Lists.{consIf, keepIf}
 use Rattle.tsparql.specs.Ceiling.{greatest32}
 use Rattle.tsparql.specs.Check.{Refusal, passes}
 use Rattle.tsparql.specs.Calls.{Tally, raiseOne, tallied}
-use Rattle.tsparql.specs.Runs.{TalliedCall, anEvaluation, aTotals, callRefusal, answeredCount, refusedCount, tallyAfter, zeroTally, run}
+use Rattle.tsparql.specs.Runs.{TalliedCall, anEvaluation, aTotals, callRefusal, tallyAfter}
+use Rattle.tsparql.specs.Runs.{answeredCount, refusedCount, zeroTally, run}
 
 -- every call is answered or refused
 counted-all : (es : List TalliedCall) → answeredCount es + refusedCount es ≡ length es

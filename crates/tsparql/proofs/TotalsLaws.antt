@@ -1,31 +1,40 @@
 -- Totals (specs/Totals.antt): the counts of all groups add up to the rows (`counts-add`), and each cell that a row has is in one group
--- (`groups-once`). The call, case by case; beside an evaluation (`totals-beside`, of the calls `totals-evaluate`); and its tally
--- (`totals-tally`). Assumes nothing.
+-- (`groups-once`). The call, case by case; beside an evaluation (`totals-beside`, of the calls `totals-evaluate`); its tally
+-- (`totals-tally`); of a rewriting (`totals-rewritten`); its sizes (`totals-fit`). Assumes nothing.
 use mathlib.Core.Path.{_≡_, refl, sym, ap, _∙_}
 use mathlib.Core.Bool.{Bool, true, false}
 use mathlib.Core.List.{List, [], _∷_, _++_, map}
-use Prim.Native.Nat.{ℕ, suc, _+_, _*_, _/_, _≤_, _<_, min}
+use Prim.Native.Nat.{ℕ, _+_, _*_, _/_, _≤_, _<_, min}
 use native.Mathlib.Nat.{mul-one}
 use native.Mathlib.Omega.{arith}
-use borrow.Author.Tests.{eqb-true, eqb-false, eq-eqb, ne-eqb, lt-ltb, le-ltb, leb-true, leb-false, ltb-true, ltb-false}
-use lib.Dec.{ltb, leb}
-use lib.ListN.{length, take, drop, length-map}
+use borrow.Author.Tests.{eqb-true, eqb-false, eq-eqb, ne-eqb, lt-ltb, le-ltb, ltb-true, ltb-false}
+use lib.Dec.{ltb}
+use lib.ListN.{length, take, drop, length-map, length-append, length-drop}
 use lib.Seq.{take-at, drop-at}
 use Rattle.tsparql.specs.Lists.{keepIf, sumOver, concatMap}
 use Rattle.tsparql.specs.Values.{Cell, Row, sameCell}
-use Rattle.tsparql.specs.Table.{View, wholeTable, factsIn}
-use Rattle.tsparql.specs.PatternSets.{Aggregate, least, rowsOver}
+use Rattle.tsparql.specs.Table.{Fact, View, wholeTable, factsIn}
+use Rattle.tsparql.specs.PatternSets.{SoundAggregate, Aggregate, least, setRows, rowsOver}
+use Rattle.tsparql.specs.Push.{noBound}
 use Rattle.tsparql.specs.Reading.{queryNode}
 use Rattle.tsparql.specs.Check.{Refusal, refuse, noRefusal, Passes, passes, check}
 use Rattle.tsparql.specs.Evaluate.{Evaluated, refusedWith, evaluateOver}
+use Rattle.tsparql.specs.Rewrite.{Accepted, written}
 use Rattle.tsparql.specs.Calls.{Tally, raiseOne, tallied, evaluate}
 use Rattle.tsparql.specs.Totals.{Group, cellOf, differentCells, rowsWith, groupOf, groups, groupLength, groupWords, totalsWords}
 use Rattle.tsparql.specs.Totals.{countsIn, Totals, variableRefusal, outputRefusal, totalsAfter, totalsOver, totalsCall, TotalsBeside}
-use Rattle.tsparql.proofs.ListLaws.{every-of, keepIf-map}
-use Rattle.tsparql.proofs.SumLaws.{sumOver-same, length-sum, keepIf-distinct, sum-distinct}
+use Rattle.tsparql.proofs.ListLaws.{keepIf-map}
+use Rattle.tsparql.proofs.SumLaws.{sumOver-same, length-sum, length-distinct, keepIf-distinct, sum-distinct}
 use Rattle.tsparql.proofs.Cardinalities.{cell-same}
+use Rattle.tsparql.proofs.PushRows.{rows-push}
+use Rattle.tsparql.proofs.TableLaws.{facts-sound}
+use Rattle.tsparql.proofs.ChoiceLaws.{setRows-sound}
+use Rattle.tsparql.proofs.QueryLaws.{check-parts, queryNode-rewriting}
+use Rattle.tsparql.proofs.RewriteLaws.{accepted-passes, accepted-written}
+use Rattle.tsparql.proofs.Demand3.{demand3-over}
 use Rattle.tsparql.proofs.RefusalLaws.{orElse-first, orElse-second}
-use Rattle.tsparql.proofs.EvaluateLaws.{evaluate-checked, evaluate-refused, evaluate-answered}
+use Rattle.tsparql.proofs.EvaluateLaws.{evaluate-checked, evaluate-refused, evaluate-answered, length-space, rows-peak-≤}
+use Rattle.tsparql.proofs.CallLaws.{check-fits, evaluate-refusal-fits}
 use Rattle.tsparql.proofs.EvaluateLaws.{unless-none, unless-checked, unless-refused}
 
 -- ---- groups
@@ -141,6 +150,42 @@ module _ (g : Aggregate) (v : View) (t s : List ℕ) (u : ℕ) (ws out : List �
       let none : variableRefusal u ≡ noRefusal = rw (le-ltb 15 u l) in
       rw (unless-none (variableRefusal u) g v t s ws (ap (λ r. r .number) none))
 
+  abbrev e : Evaluated
+  e = evaluateOver g v t s ws
+
+  -- what is shown of the five cases is shown of the call
+  pub totals-cases : (P : Totals → Type 0) → ((Passes (check t s) → ⊥) → P (totalsRefused (check t s) ws out))
+      → (Passes (check t s) → 15 < u → P (totalsRefused (refuse 10 0) ws out))
+      → (Passes (check t s) → u ≤ 15 → (Passes (e .refusal) → ⊥) → P (totalsRefused (e .refusal) (e .rowSpace) out))
+      → (Passes (check t s) → u ≤ 15 → Passes (e .refusal) → length out < length es
+      → P (totalsRefused (refuse 10 (length es)) (e .rowSpace) out))
+      → (Passes (check t s) → u ≤ 15 → Passes (e .refusal) → length es ≤ length out → P (totalsWritten es (e .rowSpace) out))
+      → P (totalsOver g v t s u ws out)
+  totals-cases P checked variable refused short written =
+      go (passes (check t s)) refl (ltb 15 u) refl (passes (e .refusal)) refl (ltb (length out) (length es)) refl
+    where
+      go : (a : Bool) → passes (check t s) ≡ a → (b : Bool) → ltb 15 u ≡ b → (c : Bool) → passes (e .refusal) ≡ c
+          → (d : Bool) → ltb (length out) (length es) ≡ d → P (totalsOver g v t s u ws out)
+      go false h b i c j d k = let z = eqb-false (check t s .number) 0 h in rw (totals-checked z) (checked z)
+      go true h true i c j d k =
+          let z = eqb-true (check t s .number) 0 h in
+          let l = ltb-true 15 u i in
+          rw (totals-variable z l) (variable z l)
+      go true h false i false j d k =
+          let l = ltb-false 15 u i in
+          let p = eqb-false (e .refusal .number) 0 j in
+          rw (totals-evaluated l ∙ after-refused es out e p) (refused (eqb-true (check t s .number) 0 h) l p)
+      go true h false i true j true k =
+          let l = ltb-false 15 u i in
+          let p = eqb-true (e .refusal .number) 0 j in
+          let m = ltb-true (length out) (length es) k in
+          rw (totals-evaluated l ∙ after-short es out e p m) (short (eqb-true (check t s .number) 0 h) l p m)
+      go true h false i true j false k =
+          let l = ltb-false 15 u i in
+          let p = eqb-true (e .refusal .number) 0 j in
+          let m = ltb-false (length out) (length es) k in
+          rw (totals-evaluated l ∙ after-written es out e p m) (written (eqb-true (check t s .number) 0 h) l p m)
+
 -- ---- beside an evaluation
 
 module _ (t s : List ℕ) (u : ℕ) (rs : List Row) (ws out : List ℕ) where
@@ -247,25 +292,16 @@ module _ (t s : List ℕ) (u : ℕ) (rs : List Row) (ws out : List ℕ) where
           space-untouched = λ k. absurd (omega arith);
         }
 
-    beside-after : (Passes (e .refusal) → e .rows ≡ length rs) → TotalsBeside t s u rs ws out (totalsAfter e own out) e
-    beside-after rows = go (passes (e .refusal)) refl (ltb (length out) (length own)) refl
-      where
-        go : (a : Bool) → passes (e .refusal) ≡ a → (b : Bool) → ltb (length out) (length own) ≡ b
-            → TotalsBeside t s u rs ws out (totalsAfter e own out) e
-        go false d b f = let h = eqb-false (e .refusal .number) 0 d in rw (after-refused own out e h) (beside-refused h)
-        go true d true f =
-            let p = eqb-true (e .refusal .number) 0 d in
-            let h = ltb-true (length out) (length own) f in
-            rw (after-short own out e p h) (beside-short p h)
-        go true d false f =
-            let p = eqb-true (e .refusal .number) 0 d in
-            let h = ltb-false (length out) (length own) f in
-            rw (after-written own out e p h) (beside-written p (rows p) h)
-
 -- what request 1 asks, of any aggregate and view: the totals beside an evaluation in a row space of the same length
 pub totals-beside : (g : Aggregate) (v : View) (t s : List ℕ) (u : ℕ) (ws ws′ out : List ℕ) → length ws ≡ length ws′
     → TotalsBeside t s u (rowsOver g (factsIn v t) (queryNode s)) ws out (totalsOver g v t s u ws out) (evaluateOver g v t s ws′)
-totals-beside g v t s u ws ws′ out same = go (passes (check t s)) refl (ltb 15 u) refl
+totals-beside g v t s u ws ws′ out same =
+    totals-cases g v t s u ws out (λ x. TotalsBeside t s u rs ws out x (evaluateOver g v t s ws′))
+    (λ h. rw (evaluate-refused g v t s ws′ h) (beside-checked t s u rs ws out ws′ h))
+    (λ z l. beside-variable t s u rs ws out (evaluateOver g v t s ws′) z l)
+    (λ z l p. rw (sym (alike z)) (beside-refused t s u rs ws out (evaluateOver g v t s ws) z l p))
+    (λ z l p h. rw (sym (alike z)) (beside-short t s u rs ws out (evaluateOver g v t s ws) z l p h))
+    (λ z l p h. rw (sym (alike z)) (beside-written t s u rs ws out (evaluateOver g v t s ws) z l p (rows p) h))
   where
     rs : List Row
     rs = rowsOver g (factsIn v t) (queryNode s)
@@ -273,23 +309,8 @@ totals-beside g v t s u ws ws′ out same = go (passes (check t s)) refl (ltb 15
     alike : Passes (check t s) → evaluateOver g v t s ws ≡ evaluateOver g v t s ws′
     alike z = evaluate-checked g v t s ws z ∙ rw same (sym (evaluate-checked g v t s ws′ z))
 
-    rows : Passes (evaluateOver g v t s ws′ .refusal) → evaluateOver g v t s ws′ .rows ≡ length rs
-    rows p = ap (λ e. e .rows) (evaluate-answered g v t s ws′ p .answer-is)
-
-    go : (a : Bool) → passes (check t s) ≡ a → (b : Bool) → ltb 15 u ≡ b
-        → TotalsBeside t s u rs ws out (totalsOver g v t s u ws out) (evaluateOver g v t s ws′)
-    go false d b f =
-        let h = eqb-false (check t s .number) 0 d in
-        rw (totals-checked g v t s u ws out h, evaluate-refused g v t s ws′ h) (beside-checked t s u rs ws out ws′ h)
-    go true d true f =
-        let z = eqb-true (check t s .number) 0 d in
-        let l = ltb-true 15 u f in
-        rw (totals-variable g v t s u ws out z l) (beside-variable t s u rs ws out (evaluateOver g v t s ws′) z l)
-    go true d false f =
-        let z = eqb-true (check t s .number) 0 d in
-        let l = ltb-false 15 u f in
-        let is = totals-evaluated g v t s u ws out l ∙ ap (λ e. totalsAfter e (totalsWords u rs) out) (alike z) in
-        rw is (beside-after t s u rs ws out (evaluateOver g v t s ws′) z l rows)
+    rows : Passes (evaluateOver g v t s ws .refusal) → evaluateOver g v t s ws .rows ≡ length rs
+    rows p = ap (λ e. e .rows) (evaluate-answered g v t s ws p .answer-is)
 
 -- of the calls, with any two tallies
 pub totals-evaluate : (t s : List ℕ) (u : ℕ) (ws ws′ out : List ℕ) (a b : Tally) → length ws ≡ length ws′
@@ -305,3 +326,109 @@ unfolding tallied
 totals-tally t s u ws out a =
     let r = totalsOver least (wholeTable t) t s u ws out .refusal in
     (λ z. rw (eq-eqb (r .number) 0 z), λ z. rw (ne-eqb (r .number) 0 z))
+
+-- ---- of a rewriting
+
+-- what was written for a query lists the query's rows
+rows-written : (g : Aggregate) → SoundAggregate g → (v : View) (t s result : List ℕ) → Accepted s result → Passes (check t s)
+    → rowsOver g (factsIn v t) (queryNode (written s result)) ≡ rowsOver g (factsIn v t) (queryNode s)
+rows-written g sound v t s result accepted z =
+    let fs = factsIn v t in
+    let facts = facts-sound v t (check-parts t s z .0) in
+    rw (accepted-written s result accepted, queryNode-rewriting s (accepted-passes s result accepted))
+    (rows-push (setRows g fs) (setRows-sound g sound fs facts) noBound (queryNode s))
+
+-- where the totals of a query are answered, those of what was written for it are the same: entries, output and row space
+pub totals-rewritten : (g : Aggregate) → SoundAggregate g → (v : View) (t s : List ℕ) (u : ℕ) (ws ws′ out result : List ℕ)
+    → Accepted s result → length ws ≡ length ws′ → Passes (totalsOver g v t s u ws out .refusal)
+    → totalsOver g v t (written s result) u ws′ out ≡ totalsOver g v t s u ws out
+totals-rewritten g sound v t s u ws ws′ out result accepted same =
+    totals-cases g v t s u ws out (λ x. Passes (x .refusal) → totalsOver g v t (written s result) u ws′ out ≡ x)
+    (λ h p. absurd (h p))
+    (λ z l p. absurd (let y : _≡_ {A = ℕ} 10 0 = p in omega arith))
+    (λ z l h p. absurd (h p))
+    (λ z l p h k. absurd (let y : _≡_ {A = ℕ} 10 0 = k in omega arith))
+    (λ z l p h k. answered z l p h)
+  where
+    w : List ℕ
+    w = written s result
+
+    fs : List Fact
+    fs = factsIn v t
+
+    answered : Passes (check t s) → u ≤ 15 → Passes (evaluateOver g v t s ws .refusal)
+        → length (totalsWords u (rowsOver g fs (queryNode s))) ≤ length out
+        → totalsOver g v t w u ws′ out ≡ totalsWritten (totalsWords u (rowsOver g fs (queryNode s))) (evaluateOver g v t s ws .rowSpace) out
+    answered z l p h =
+        let r = evaluateOver g v t w ws′ in
+        let alike = demand3-over g sound v t s result ws ws′ accepted same .answered-alike p in
+        let rows = rows-written g sound v t s result accepted z in
+        let fits = rw (sym rows) at h in
+        totals-evaluated g v t w u ws′ out l
+        ∙ after-written (totalsWords u (rowsOver g fs (queryNode w))) out r (ap (λ x. x .number) (alike .no-refusal)) fits
+        ∙ rw (rows, alike .same-space)
+
+-- ---- sizes
+
+-- no more groups than rows
+pub totals-size-≤ : (u : ℕ) (rs : List Row) → length (totalsWords u rs) ≤ groupLength * length rs
+unfolding totalsWords groups
+totals-size-≤ u rs =
+    omega (
+      arith,
+      length-groupsWords (groups u rs),
+      length-map (differentCells u rs) (groupOf u rs),
+      length-distinct sameCell (map (cellOf u) rs),
+      length-map rs (cellOf u),
+    )
+
+-- number, place and length fit their types: no answer needs more than 196,605 words; row space and output keep their lengths
+pub record TotalsFit (words room : ℕ) (x : Totals) : Type 0 where
+  pub number-fits : x .refusal .number ≤ 10
+  pub place-fits : x .refusal .place ≤ 196605
+  pub size-fits : x .size ≤ 196605
+  pub space-kept : length (x .rowSpace) ≡ words
+  pub output-kept : length (x .output) ≡ room
+
+pub totals-fit : (t s : List ℕ) (u : ℕ) (ws out : List ℕ) (a : Tally) → TotalsFit (length ws) (length out) (totalsCall t s u ws out a .totals)
+totals-fit t s u ws out a =
+    totals-cases least v t s u ws out (TotalsFit (length ws) (length out))
+    (λ h. none (check t s) ws refl (omega (arith, check-fits t s)) (omega (arith, check-fits t s)))
+    (λ z l. none (refuse 10 0) ws refl (omega arith) (omega arith))
+    (λ z l p. none (e .refusal) (e .rowSpace) long (omega (arith, fits)) (omega (arith, fits)))
+    (λ z l p h. none (refuse 10 (length es)) (e .rowSpace) long (omega arith) (most p))
+    (λ z l p h. record {
+      number-fits = omega arith;
+      place-fits = omega arith;
+      size-fits = most p;
+      space-kept = long;
+      output-kept = length-append es (drop (length es) out) ∙ rw (length-drop (length es) out) (omega arith);
+    })
+  where
+    v : View
+    v = wholeTable t
+
+    e : Evaluated
+    e = evaluateOver least v t s ws
+
+    rs : List Row
+    rs = rowsOver least (factsIn v t) (queryNode s)
+
+    es : List ℕ
+    es = totalsWords u rs
+
+    long : length (e .rowSpace) ≡ length ws
+    long = length-space least v t s ws
+
+    fits : (e .refusal .number ≤ 8) × (e .refusal .place ≤ 65534)
+    fits = evaluate-refusal-fits least v t s ws
+
+    most : Passes (e .refusal) → length es ≤ 196605
+    most p =
+        let rows : e .rows ≡ length rs = ap (λ x. x .rows) (evaluate-answered least v t s ws p .answer-is) in
+        omega (arith, rows, rows-peak-≤ least v t s ws p, totals-size-≤ u rs)
+
+    none : (r : Refusal) (space : List ℕ) → length space ≡ length ws → r .number ≤ 10 → r .place ≤ 196605
+        → TotalsFit (length ws) (length out) (totalsRefused r space out)
+    none r space k n p =
+        record { number-fits = n; place-fits = p; size-fits = omega arith; space-kept = k; output-kept = refl }

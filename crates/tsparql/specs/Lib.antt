@@ -1,5 +1,5 @@
--- The definitions of documents 01 and 02, to be read in this order; the last file has those of document 000 that they are compared with. Each
--- file says what it holds and where the rest is.
+-- The definitions of documents 01 and 02, to be read in this order; the last file has those of document 000 that they are compared
+-- with. Each file says what it holds and where the rest is.
 pub mod Lists
 pub mod Values
 pub mod Query

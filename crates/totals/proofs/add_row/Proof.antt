@@ -68,9 +68,9 @@ lesser-word-requires c κs = search needs
 
 add-out-3 : tie.Need-add-out-3
 add-out-3 c =
-    let pre = c .before .before .before .before .before .pre in
-    let less : c .before .before .before .before .before .args .s < c .before .before .before .before .before .args .k = omega (arith, pre .within, c .before .before .before .if1 .left) in
-    omega (arith, pre .small less)
+    let start = c .before .before .before .before .before in
+    let less : start .args .s < start .args .k = omega (arith, start .pre .within, c .before .before .before .if1 .left) in
+    omega (arith, start .pre .small less)
 
 add-out-4 : tie.Need-add-out-4
 add-out-4 c = search needs

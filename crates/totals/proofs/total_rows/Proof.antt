@@ -18,7 +18,9 @@ number-rows-requires : tie.Need-number-rows-requires
 number-rows-requires c κs = search needs
 
 mul-words : tie.Need-mul-words
-mul-words c = omega (arith, numbers-few (c .before .before .before .number-rows .ensures), c .before .before .before .before .before .before .before .before .before .pre .2)
+mul-words c =
+    let made = c .before .before .before in
+    omega (arith, numbers-few (made .number-rows .ensures), made .before .before .before .before .before .before .pre .2)
 
 returns : tie.Need-returns
 returns c = entered-short (c .before .before .before .before .number-rows .ensures) _ (c .if1 .taken)
@@ -37,7 +39,9 @@ same-length c = search needs
 
 returns-2 : tie.Need-returns-2
 returns-2 c =
-    entered-all (c .before .before .before .before .before .before .before .before .before .number-rows .ensures) _ _ (c .before .before .before .before .before .if1 .left) (c .before .before .write-entries .ensures)
+    let test = c .before .before .before .before .before in
+    entered-all (test .before .before .before .before .number-rows .ensures) _ _ (test .if1 .left)
+    (c .before .before .write-entries .ensures)
 
 pub total-rows-spec : {M : Type 1} → statement M
 total-rows-spec =
