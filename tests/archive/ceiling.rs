@@ -160,6 +160,7 @@ fn deepest() -> Deepest<Ceiling> {
         figure: "RANDWYLER_STACK_CEILING_KIB",
         chains: chains::all(&[], CHECK_LIMIT),
         shallow: chains::of_few_pairs(),
+        shallow_kib: stack::SHALLOW,
         call: |query| ffi::ceiling(&tables::w(), query),
         expected: |query| ceilings::ceiling(&tables::w(), query),
     }

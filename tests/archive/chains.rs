@@ -1,11 +1,23 @@
 //! The deepest queries of a length, and their refusals by hand.
 
-use crate::paper::{refusal, Refusal, NONE};
+use crate::paper::{refusal, Refusal, CHECK_LIMIT, NONE};
+use crate::tables;
 
 pub const SET: &[u8] = &[0x00];
 pub const TRUE: &[u8] = &[0x70];
 /// Ensure trust 500 to 1000.
 pub const E: &[u8] = &[0x60, 0x5D, 0xC7, 0xD0];
+
+/// Records of the table for chains, and rows of space that do for every chain: at most one for two bytes, two more, and
+/// those of a join of all records with themselves.
+pub const RECORDS: u32 = 32;
+pub const SPACE: usize = CHECK_LIMIT / 2 + 2 + 3 * RECORDS as usize;
+
+/// The table for chains: the store W, and records behind it.
+pub fn table() -> Vec<u8> {
+    let more: Vec<_> = (5..=RECORDS).map(|subject| ([subject, 30, 31], Some(700))).collect();
+    [tables::w(), tables::facts(&more)].concat()
+}
 
 pub struct Chain {
     pub name: String,

@@ -135,6 +135,7 @@ fn deepest() -> Deepest<Refusal> {
         figure: "RANDWYLER_STACK_CHECK_KIB",
         chains: chains::all(&[], CHECK_LIMIT),
         shallow: chains::of_few_pairs(),
+        shallow_kib: stack::SHALLOW,
         call: |query| ffi::check(&[], query),
         expected: |query| paper::check(&[], query),
     }

@@ -250,29 +250,21 @@ fn on_threads(report: &mut Report) {
     });
 }
 
-/// Records of the table for chains, and rows of space that do for every chain: at most one for two bytes, two more, and
-/// those of a join of all records with themselves.
-const CHAIN_RECORDS: u32 = 32;
-const CHAIN_WORDS: usize = (CHECK_LIMIT / 2 + 2 + 3 * CHAIN_RECORDS as usize) * ROW_WORDS;
+const CHAIN_WORDS: usize = chains::SPACE * ROW_WORDS;
 const CHAIN_TALLY: Tally = Tally { answered: 0, refused: 0 };
-
-/// The store W, and records behind it.
-fn chain_table() -> Vec<u8> {
-    let more: Vec<_> = (5..=CHAIN_RECORDS).map(|subject| ([subject, 30, 31], Some(700))).collect();
-    [tables::w(), tables::facts(&more)].concat()
-}
 
 fn deepest() -> Deepest<(Evaluated, Vec<u32>)> {
     Deepest {
         figure: "RANDWYLER_STACK_EVALUATE_KIB",
         chains: chains::all(&[], CHECK_LIMIT).into_iter().chain(chains::of_many_pairs(CHECK_LIMIT)).collect(),
         shallow: chains::of_few_pairs(),
+        shallow_kib: stack::SHALLOW,
         call: |query| {
             let mut space = vec![0xA5; CHAIN_WORDS];
-            (ffi::evaluate(&chain_table(), query, &mut space, CHAIN_TALLY), space)
+            (ffi::evaluate(&chains::table(), query, &mut space, CHAIN_TALLY), space)
         },
         expected: |query| {
-            let (answer, after) = rows::evaluate(&chain_table(), query).answer(CHAIN_WORDS, CHAIN_TALLY);
+            let (answer, after) = rows::evaluate(&chains::table(), query).answer(CHAIN_WORDS, CHAIN_TALLY);
             (answer, after.unwrap_or(vec![0xA5; CHAIN_WORDS]))
         },
     }

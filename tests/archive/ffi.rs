@@ -3,8 +3,8 @@
 #[path = "../../include/randwyler.rs"]
 mod randwyler;
 
-use crate::paper::{Ceiling, Evaluated, Refusal, Rewritten, Tally};
-use randwyler::raw::{randwyler_ceiling_of, randwyler_check, randwyler_evaluate, randwyler_rewrite};
+use crate::paper::{Ceiling, Evaluated, Refusal, Rewritten, Tally, Totalled};
+use randwyler::raw::{randwyler_ceiling_of, randwyler_check, randwyler_evaluate, randwyler_rewrite, randwyler_totals_of};
 
 /// The pointer and length of a slice; none is NULL with length 0.
 fn parts(slice: Option<&[u8]>) -> (*const u8, usize) {
@@ -97,4 +97,67 @@ pub fn evaluate_unwritten(table: &[u8], query: &[u8], words: usize, tally: Tally
     // SAFETY: an answer, and refusal 8, write every word; valgrind sees it if they do not.
     unsafe { space.set_len(words) };
     (answer, Some(space))
+}
+
+/// `randwyler_totals_of` with NULL for none, in a row space and with an output by their pointers and lengths.
+///
+/// # Safety
+/// Row space and output are ours to write, or NULL with length 0.
+unsafe fn totals_at(
+    (table, query): (Option<&[u8]>, Option<&[u8]>),
+    variable: u32,
+    (space, space_len): (*mut u32, usize),
+    (output, output_len): (*mut u32, usize),
+    Tally { answered, refused }: Tally,
+) -> Totalled {
+    let ((table, table_len), (query, query_len)) = (parts(table), parts(query));
+    let tally = randwyler::Tally { answered, refused };
+    let answer =
+        randwyler_totals_of(table, table_len, query, query_len, variable, space, space_len, output, output_len, tally);
+    let randwyler::Tally { answered, refused } = answer.tally;
+    Totalled {
+        refusal: Refusal { number: answer.number, place: answer.place },
+        length: answer.length,
+        tally: Tally { answered, refused },
+    }
+}
+
+/// `randwyler_totals_of`, with NULL for none.
+pub fn totals_or_null(
+    inputs: (Option<&[u8]>, Option<&[u8]>),
+    variable: u32,
+    space: Option<&mut [u32]>,
+    output: Option<&mut [u32]>,
+    tally: Tally,
+) -> Totalled {
+    // SAFETY: the pointers are NULL with length 0 or a slice's own; table and query are only read, space and output are lent.
+    unsafe { totals_at(inputs, variable, parts_mut(space), parts_mut(output), tally) }
+}
+
+pub fn totals(table: &[u8], query: &[u8], variable: u32, space: &mut [u32], output: &mut [u32], tally: Tally) -> Totalled {
+    totals_or_null((Some(table), Some(query)), variable, Some(space), Some(output), tally)
+}
+
+/// `randwyler_totals_of` in a row space and with an output that nobody has written; what then stands in the row space, none where it is
+/// left as it was; and the entries.
+pub fn totals_unwritten(
+    (table, query): (&[u8], &[u8]),
+    variable: u32,
+    [words, room]: [usize; 2],
+    tally: Tally,
+) -> (Totalled, Option<Vec<u32>>, Vec<u32>) {
+    let (mut space, mut output) = (Vec::with_capacity(words), Vec::with_capacity(room));
+    let lent = ((space.as_mut_ptr(), words), (output.as_mut_ptr(), room));
+    // SAFETY: both have room for so many words.
+    let answer = unsafe { totals_at((Some(table), Some(query)), variable, lent.0, lent.1, tally) };
+    assert!(answer.length <= room as u64, "an answer of {} words in an output of {room}", answer.length);
+    // SAFETY: an answer writes so many words; valgrind sees it if it does not.
+    unsafe { output.set_len(answer.length as usize) };
+    let Refusal { number, place } = answer.refusal;
+    if (randwyler::TABLE_LENGTH..randwyler::NO_ROOM).contains(&number) || (number, place) == (randwyler::BAD_TOTALS, 0) {
+        return (answer, None, output);
+    }
+    // SAFETY: an answer, refusal 8 and a 10 for the output write every word of the row space.
+    unsafe { space.set_len(words) };
+    (answer, Some(space), output)
 }

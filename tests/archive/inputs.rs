@@ -50,6 +50,44 @@ pub fn pattern_set(random: &mut Random) -> (Vec<u8>, Vec<u8>) {
     (table, queries::pattern_set(random, &MANY_PATTERNS.with_terms(&terms)))
 }
 
+/// A slot of one of the variables 0 to 3, or of a term.
+fn slot(random: &mut Random, terms: &[u32]) -> [u8; 3] {
+    if random.below(3) > 0 {
+        return [0x10, 0, random.below(4) as u8];
+    }
+    let [_, term @ ..] = random.pick(terms).to_be_bytes();
+    term
+}
+
+/// A set of one pattern.
+fn one_pattern(random: &mut Random, terms: &[u32]) -> Vec<u8> {
+    [&[0x01][..], &slot(random, terms), &slot(random, terms), &slot(random, terms)].concat()
+}
+
+/// A small table, and the union of some sets and left joins about it, some under a project trust: a variable is set in some rows
+/// and free in others before and behind them.
+pub fn unions(random: &mut Random) -> (Vec<u8>, Vec<u8>) {
+    let records = random.within(4, 24);
+    let terms = few_terms(random, 3);
+    let table = tables::table_of_terms(random, records, |random| random.pick(&terms));
+    let mut query = if random.once_in(4) { vec![0x5F] } else { vec![] };
+    let operands = random.within(2, 6) as u8;
+    for operand in 1..=operands {
+        if operand < operands {
+            query.push(0x30);
+        }
+        if random.once_in(3) {
+            query.push(0x50 | 3 + operand);
+        }
+        if random.once_in(3) {
+            query.extend([0x20, 0x70]);
+            query.extend(one_pattern(random, &terms));
+        }
+        query.extend(one_pattern(random, &terms));
+    }
+    (table, query)
+}
+
 /// A table of most of 27 or 64 triples and a long query about them: its ceiling may be above the greatest.
 pub fn dense(random: &mut Random, nested: &mut Nested) -> (Vec<u8>, Vec<u8>) {
     let most = random.within(3, 4);

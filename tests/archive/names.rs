@@ -3,6 +3,7 @@
 
 mod chains;
 mod conditions;
+mod groups;
 mod limits;
 mod paper;
 mod push;
@@ -24,12 +25,14 @@ fn number(report: &mut Report, what: &str, expected: u32, got: u32) {
     report.case(got == expected, || format!("{what}: the number is {got}, its name says {expected}"));
 }
 
-/// Check, ceiling and evaluation of a table and a query, in enough row space.
+/// Check, ceiling, evaluation and totals of a table and a query, in enough row space and with enough output.
 fn all_but_rewrite(report: &mut Report, what: &str, expected: u32, table: &[u8], query: &[u8]) {
-    let mut space = vec![0; MOST_ROWS * ROW_WORDS];
+    let (mut space, mut output) = (vec![0; MOST_ROWS * ROW_WORDS], vec![0; MOST_TOTALS_WORDS]);
     number(report, &format!("check, {what}"), expected, check(table, query).number);
     number(report, &format!("ceiling, {what}"), expected, ceiling_of(table, query).number);
     number(report, &format!("evaluation, {what}"), expected, evaluate(table, query, &mut space, TALLY).number);
+    let totalled = totals_of(table, query, 0, &mut space, &mut output, TALLY);
+    number(report, &format!("totals, {what}"), expected, totalled.number);
 }
 
 /// An evaluation in a row space of so many words, and what then stands in it.
@@ -104,7 +107,32 @@ fn row_spaces(report: &mut Report) {
     }
 }
 
-/// The words of rows, by known trusts and terms.
+/// The totals of a variable in a row space for the most rows, with an output of so many words.
+fn in_room(table: &[u8], query: &[u8], variable: usize, room: usize) -> Totalled {
+    totals_of(table, query, variable as u32, &mut vec![7; MOST_ROWS * ROW_WORDS], &mut vec![7; room], TALLY)
+}
+
+fn outputs(report: &mut Report) {
+    let no_room = totals_of(&[], &[0x00], 0, &mut [7; ROW_WORDS - 1], &mut [7; GROUP_WORDS], TALLY);
+    number(report, "totals, no row space", NO_ROOM, no_room.number);
+    let variable = in_room(&[], &[0x00], VARIABLES, GROUP_WORDS);
+    number(report, "totals, a variable behind the last", BAD_TOTALS, variable.number);
+    // One row, and as many as there can be, each with another subject.
+    let subjects: Vec<_> = (1..=MOST_ROWS as u32).map(|subject| ([subject, 1, 1], Some(0))).collect();
+    for (what, table, query, variable, words) in [
+        ("one entry", vec![], "00", VARIABLES - 1, GROUP_WORDS),
+        ("the most entries", tables::facts(&subjects), "S", 0, MOST_TOTALS_WORDS),
+    ] {
+        let query = vectors::query(query);
+        let (short, exact) = (in_room(&table, &query, variable, words - 1), in_room(&table, &query, variable, words));
+        let right = (short.number, short.place) == (BAD_TOTALS, words as u64);
+        report.case(right, || format!("{what}, a word short: {short:?}"));
+        let right = (exact.number, exact.length) == (ANSWERED, words as u64);
+        report.case(right, || format!("{what}: {exact:?}"));
+    }
+}
+
+/// The words of rows and entries, by known trusts and terms.
 fn words(report: &mut Report) {
     const FREE: u32 = 0;
     let last_term = 1_048_575;
@@ -122,6 +150,9 @@ fn words(report: &mut Report) {
         expected.push(word);
         let right = (answer.number, answer.rows) == (ANSWERED, 1) && row == expected;
         report.case(right, || format!("trust {trust:?}: the row is {row:?}, and not {expected:?}"));
+        let mut entry = [7; GROUP_WORDS];
+        totals_of(&table, &project, VARIABLES as u32 - 1, &mut [7; ROW_WORDS], &mut entry, TALLY);
+        report.case(entry == [cell, 1, word], || format!("trust {trust:?}: the entry is {entry:?}"));
     }
 }
 
@@ -136,8 +167,10 @@ fn readings(report: &mut Report) {
         ("ROW_WORDS", ROW_WORDS, rows::ROW_WORDS),
         ("VARIABLES", VARIABLES, paper::VARIABLES as usize),
         ("MOST_ROWS", MOST_ROWS, rows::MOST_ROWS),
+        ("GROUP_WORDS", GROUP_WORDS, groups::GROUP_WORDS),
+        ("MOST_TOTALS_WORDS", MOST_TOTALS_WORDS, groups::GROUP_WORDS * rows::MOST_ROWS),
     ] {
-        report.case(value == read, || format!("{name} is {value}, and {read} by document 01"));
+        report.case(value == read, || format!("{name} is {value}, and {read} by the documents"));
     }
 }
 
@@ -160,6 +193,7 @@ fn main() {
     report.part("refusals");
     greatest_inputs(&mut report);
     row_spaces(&mut report);
+    outputs(&mut report);
     words(&mut report);
     readings(&mut report);
     report.part("sizes and words");

@@ -3,7 +3,7 @@
 //! Written from the document and made for reading, with no code in common with the engine: a table becomes a list
 //! of records, a query becomes a tree whose nodes know their places, and the refusals are asked of these.
 
-/// A number from 1 to 9 with its place, or 0 and 0.
+/// A number from 1 to 10 with its place, or 0 and 0.
 #[derive(Clone, Copy, Debug, PartialEq, Eq)]
 pub struct Refusal {
     pub number: u32,
@@ -39,6 +39,14 @@ pub struct Evaluated {
     pub rows: u32,
     pub peak: u32,
     pub pairs: u64,
+    pub tally: Tally,
+}
+
+/// The answer of totals: the length, in words, is 0 on a refusal.
+#[derive(Clone, Copy, Debug, PartialEq, Eq)]
+pub struct Totalled {
+    pub refusal: Refusal,
+    pub length: u64,
     pub tally: Tally,
 }
 

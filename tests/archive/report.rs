@@ -1,6 +1,6 @@
 //! Counts cases, and shows those that fail.
 
-use crate::paper::{Ceiling, Evaluated, Refusal, Rewritten, Tally};
+use crate::paper::{Ceiling, Evaluated, Refusal, Rewritten, Tally, Totalled};
 use std::fmt::{Display, Formatter, Result};
 
 /// Failures that are shown in full; later ones are only counted.
@@ -57,6 +57,18 @@ impl Report {
         self.answer(what, expected, got, || format!("eval {} {} {words}", hex(table), hex(query)));
     }
 
+    /// Counts a case of totals of a variable, in a row space of `words` words and with an output of `room` words.
+    pub fn totals(
+        &mut self,
+        what: &str,
+        (table, query): (&[u8], &[u8]),
+        (variable, words, room): (u32, usize, usize),
+        expected: Totalled,
+        got: Totalled,
+    ) {
+        self.answer(what, expected, got, || format!("totals9 {} {} {variable} {words} {room}", hex(table), hex(query)));
+    }
+
     /// Says what a part of the test found.
     pub fn part(&self, name: &str) {
         println!("{name}: {} passed and {} failed so far", self.passed, self.failed);
@@ -89,10 +101,21 @@ impl Display for Ceiling {
     }
 }
 
+impl Display for Tally {
+    fn fmt(&self, to: &mut Formatter) -> Result {
+        write!(to, "(tally {}, {})", self.answered, self.refused)
+    }
+}
+
 impl Display for Evaluated {
     fn fmt(&self, to: &mut Formatter) -> Result {
-        let Tally { answered, refused } = self.tally;
-        write!(to, "{} {} {} {} (tally {answered}, {refused})", self.refusal, self.rows, self.peak, self.pairs)
+        write!(to, "{} {} {} {} {}", self.refusal, self.rows, self.peak, self.pairs, self.tally)
+    }
+}
+
+impl Display for Totalled {
+    fn fmt(&self, to: &mut Formatter) -> Result {
+        write!(to, "{} {} {}", self.refusal, self.length, self.tally)
     }
 }
 

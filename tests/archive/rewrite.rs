@@ -219,6 +219,7 @@ fn deepest() -> Deepest<(Rewritten, Vec<u8>)> {
         figure: "RANDWYLER_STACK_REWRITE_KIB",
         chains: roots.iter().flat_map(|root| chains::all(root, REWRITE_LIMIT)).collect(),
         shallow: chains::of_few_pairs(),
+        shallow_kib: stack::SHALLOW,
         call: |query| {
             let mut output = vec![0; MOST_RESULT];
             let answer = ffi::rewrite(query, &mut output);

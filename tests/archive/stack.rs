@@ -14,16 +14,17 @@ const MOST: usize = 8192;
 /// No thread has less.
 const LEAST: usize = 16;
 const STEP: usize = 4;
-/// Does for a shallow query, in KiB.
-const SHALLOW: usize = 64;
+/// Does for a shallow query where a call itself has no large local, in KiB.
+pub const SHALLOW: usize = 64;
 
 /// A call and the deepest queries that it takes.
 pub struct Deepest<Answer> {
     /// The header's name for the stack, in KiB, that the call needs.
     pub figure: &'static str,
     pub chains: Vec<Chain>,
-    /// Queries of a few levels that do with little stack: no large local stands in a frame that they take.
+    /// Queries of a few levels that do with little stack, in KiB: no large local stands in a frame of theirs, but for the call's own.
     pub shallow: Vec<Chain>,
+    pub shallow_kib: usize,
     pub call: fn(&[u8]) -> Answer,
     /// The answer by an independent reading.
     pub expected: fn(&[u8]) -> Answer,
@@ -51,7 +52,8 @@ impl<Answer: PartialEq + Send> Deepest<Answer> {
             return report.case(false, || format!("the deepest query overflows a stack of {MOST} KiB"));
         }
         let shallow = run_child(&["--shallow"]) == Some(0);
-        report.case(shallow, || format!("a shallow query is not answered right on a stack of {SHALLOW} KiB"));
+        let kib = self.shallow_kib;
+        report.case(shallow, || format!("a shallow query is not answered right on a stack of {kib} KiB"));
         for (chain, got) in self.chains.iter().zip(self.answers(&self.chains, MOST)) {
             let read = paper::query(&chain.query, chain.query.len()).err().unwrap_or(NONE);
             report.case(read == chain.refusal, || format!("{}: paper.rs differs", chain.name));
@@ -141,7 +143,7 @@ pub fn main<Answer: PartialEq + Send + 'static>(
         }
         [option] if option == "--shallow" => Box::new(move || {
             let deepest = deepest();
-            i32::from(!deepest.right_on(&deepest.shallow, SHALLOW))
+            i32::from(!deepest.right_on(&deepest.shallow, deepest.shallow_kib))
         }),
         _ => panic!("the options are --stack KIB and --shallow"),
     };

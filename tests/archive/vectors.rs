@@ -1,4 +1,4 @@
-//! The lines of tests/vectors/base.txt: `CALL INPUT... => ANSWER...`, bytes in hexadecimal, `-` for none.
+//! The lines of the files in tests/vectors: `CALL INPUT... => ANSWER...`, bytes and words in hexadecimal, `-` for none.
 
 pub struct Vector {
     /// Its line in the file, from 1.

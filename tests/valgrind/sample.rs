@@ -1,5 +1,5 @@
-//! Calls for valgrind: every slice stands alone on the heap, and row spaces are lent with nothing written in them. The answers
-//! are held to the independent readings too. The last line is 'N passed, M failed'.
+//! Calls for valgrind: every slice stands alone on the heap, and row spaces are lent with nothing written in them, as are outputs of
+//! totals. The answers are held to the independent readings too. The last line is 'N passed, M failed'.
 
 #[path = "../archive/ceilings.rs"]
 mod ceilings;
@@ -9,8 +9,12 @@ mod conditions;
 mod fence;
 #[path = "../archive/ffi.rs"]
 mod ffi;
+#[path = "../archive/groups.rs"]
+mod groups;
 #[path = "../archive/inputs.rs"]
 mod inputs;
+#[path = "../archive/outputs.rs"]
+mod outputs;
 #[path = "../archive/paper.rs"]
 mod paper;
 #[path = "../archive/push.rs"]
@@ -28,11 +32,12 @@ mod spaces;
 #[path = "../archive/tables.rs"]
 mod tables;
 
+use groups::Totals;
 use paper::Tally;
 use queries::KINDS;
 use random::Random;
 use report::Report;
-use rows::Seen;
+use rows::{Outcome, Seen};
 
 const CASES: usize = 1_000;
 const MOST_SPACE: usize = 200;
@@ -69,12 +74,35 @@ fn test(report: &mut Report, random: &mut Random, what: &str, table: &[u8], quer
             report.case(space == after, || format!("{what}: wrong words"));
         }
     }
+    test_totals(report, random, what, (table, query), &outcome);
+}
+
+/// Totals of a variable. An output with nothing written in it shows what an answer depends on, one with noise what is written.
+fn test_totals(report: &mut Report, random: &mut Random, what: &str, inputs: (&[u8], &[u8]), outcome: &Outcome) {
+    let totals = Totals::new(outcome, outputs::variable(random, outcome));
+    let (variable, spaces, rooms) = (totals.variable, spaces::lengths(outcome), outputs::rooms(&totals));
+    for [words, room] in [[spaces[1], rooms[0]], [spaces[1], rooms[1]], [random.pick(&spaces), random.pick(&rooms)]] {
+        let (expected, after, written) = totals.answer([words, room], TALLY);
+        let (got, space, entries) = ffi::totals_unwritten(inputs, variable, [words, room], TALLY);
+        report.totals(what, inputs, (variable, words, room), expected, got);
+        report.case((&space, &entries) == (&after, &written), || format!("{what}: wrong words or entries"));
+        let before: Vec<u32> = random.noise(room);
+        let mut output = before.clone().into_boxed_slice();
+        let mut space = random.noise::<u32>(words).into_boxed_slice();
+        let got = ffi::totals(inputs.0, inputs.1, variable, &mut space, &mut output, TALLY);
+        report.totals(what, inputs, (variable, words, room), expected, got);
+        let right = output.starts_with(&written) && output[written.len()..] == before[written.len()..];
+        report.case(right, || format!("{what}: wrong words in the output"));
+    }
 }
 
 fn main() {
     let (mut report, mut random) = (Report::default(), Random::new(1));
     for number in 0..CASES {
-        let (table, query) = inputs::narrow(&mut random, &mut [[0; KINDS]; KINDS]);
+        let (table, query) = match number % 4 {
+            0 => inputs::unions(&mut random),
+            _ => inputs::narrow(&mut random, &mut [[0; KINDS]; KINDS]),
+        };
         // A boxed slice has no room behind its end.
         let (table, query) = (table.into_boxed_slice(), query.into_boxed_slice());
         test(&mut report, &mut random, &format!("case {number}"), &table, &query);

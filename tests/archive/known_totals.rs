@@ -1,0 +1,139 @@
+//! Totals whose entries are written down by hand.
+
+use crate::groups::{Totals, GROUP_WORDS};
+use crate::outputs::Outputs;
+use crate::paper::VARIABLES;
+use crate::report::Report;
+use crate::rows;
+use crate::tables;
+use crate::vectors;
+
+/// The cells of trusts -1000 and unknown.
+const LEAST_TRUST: u32 = 1_048_576;
+const UNKNOWN_CELL: u32 = 1_050_577;
+/// An unknown trust of a row or an entry.
+const UNKNOWN: u32 = 2_001;
+
+type Entry = [u32; GROUP_WORDS];
+
+/// A table, and what the tests of queries on it found.
+struct Store<'a> {
+    table: Vec<u8>,
+    outputs: Outputs,
+    report: &'a mut Report,
+}
+
+impl Store<'_> {
+    fn new(table: Vec<u8>, report: &mut Report) -> Store<'_> {
+        Store { table, outputs: Outputs::new(1), report }
+    }
+
+    /// Tests totals of a variable in row spaces and with outputs of all awkward lengths.
+    fn test(&mut self, what: &str, query: &str, variable: u32, entries: &[Entry]) {
+        let query = vectors::query(query);
+        let outcome = rows::evaluate(&self.table, &query);
+        let totals = Totals::new(&outcome, variable);
+        let read = totals.entries();
+        self.report.case(read == entries.concat(), || format!("{what}: groups.rs has {read:?}"));
+        self.outputs.test_lengths(self.report, what, (&self.table, &query), &totals);
+    }
+}
+
+/// Rows of the store below as (?0, ?1) trust. A: (1, free) -400. B: (1, 5) 300, (2, 5) -100. `C`, which is {?0 30 ?1}: (1, 5) 250,
+/// (1, 6) unknown, (2, 7) 1000.
+const C: &str = "01 100000 00001e 100001";
+const FACTS: [([u32; 3], Option<i32>); 6] = [
+    ([1, 10, 5], Some(300)),
+    ([1, 20, 21], Some(-400)),
+    ([1, 30, 5], Some(250)),
+    ([1, 30, 6], None),
+    ([2, 10, 5], Some(-100)),
+    ([2, 30, 7], Some(1_000)),
+];
+
+/// Cells of terms, and free ones.
+pub fn terms(report: &mut Report) {
+    let mut store = Store::new(tables::facts(&FACTS), report);
+    let all = format!("30 B 30 A {C}");
+    store.test("a free group between others", &all, 1, &[[5, 3, 900], [0, 1, 600], [6, 1, UNKNOWN], [7, 1, 2_000]]);
+    store.test("an unknown trust in a group", &all, 0, &[[1, 4, UNKNOWN], [2, 2, 900]]);
+    for variable in 2..VARIABLES {
+        store.test("a variable that no row has", &all, variable, &[[0, 6, UNKNOWN]]);
+    }
+    let last = format!("30 {C} B");
+    store.test("the least trust last", &last, 1, &[[5, 3, 900], [6, 1, UNKNOWN], [7, 1, 2_000]]);
+    store.test("groups in turns", &last, 0, &[[1, 3, UNKNOWN], [2, 2, 900]]);
+    let first = "30 01 000002 00000a 100001 B";
+    store.test("the least trust first", first, 1, &[[5, 3, 900]]);
+    store.test("a free group first", first, 0, &[[0, 1, 900], [1, 1, 1_300], [2, 1, 900]]);
+    store.test("a free group last", &format!("30 {C} A"), 1, &[[5, 1, 1_250], [6, 1, UNKNOWN], [7, 1, 2_000], [0, 1, 600]]);
+    let unknown_first = "30 01 100000 00001e 000006 B";
+    store.test("an unknown trust first", unknown_first, 0, &[[1, 2, UNKNOWN], [2, 1, 900]]);
+    store.test("an unknown trust in the free group", unknown_first, 1, &[[0, 1, UNKNOWN], [5, 2, 900]]);
+}
+
+/// The same store's records as they stand, and in another order.
+pub fn records(report: &mut Report) {
+    let mut store = Store::new(tables::facts(&FACTS), report);
+    store.test("subjects", "S", 0, &[[1, 4, UNKNOWN], [2, 2, 900]]);
+    store.test("predicates", "S", 1, &[[10, 2, 900], [20, 1, 600], [30, 3, UNKNOWN]]);
+    store.test("objects", "S", 2, &[[5, 3, 900], [21, 1, 600], [6, 1, UNKNOWN], [7, 1, 2_000]]);
+    store.test(
+        "falling cells",
+        "30 40 22 000007 S 30 40 22 000006 S 40 22 000005 S",
+        2,
+        &[[7, 1, 2_000], [6, 1, UNKNOWN], [5, 3, 900]],
+    );
+    store.test("a left join", "20 70 B A", 0, &[[1, 1, 600], [2, 1, 900]]);
+}
+
+/// Cells of trusts.
+pub fn trusts(report: &mut Report) {
+    let cell = |trust: u32| LEAST_TRUST + trust;
+    let facts = [([1, 10, 5], Some(300)), ([1, 10, 6], None), ([1, 10, 7], Some(-1_000)), ([2, 20, 21], Some(1_000))];
+    let mut store = Store::new(tables::facts(&facts), report);
+    let projected = [[cell(1_300), 1, 1_300], [UNKNOWN_CELL, 1, UNKNOWN], [cell(0), 1, 0]];
+    store.test("project trust", "5f B", 15, &projected);
+    store.test("project trust of another variable", "52 B", 15, &[[0, 3, UNKNOWN]]);
+    store.test("trusts at both ends", "53 30 A B", 3, &[&[[cell(2_000), 1, 2_000]][..], &projected].concat());
+    let twice = "53 30 30 B A B";
+    store.test(
+        "an unknown cell twice",
+        twice,
+        3,
+        &[[cell(1_300), 2, 1_300], [UNKNOWN_CELL, 2, UNKNOWN], [cell(0), 2, 0], [cell(2_000), 1, 2_000]],
+    );
+    let facts = [
+        ([1, 10, 5], Some(300)),
+        ([1, 20, 21], Some(800)),
+        ([2, 20, 21], Some(500)),
+        ([3, 10, 6], Some(-7)),
+        ([3, 20, 21], None),
+    ];
+    // The left row 2 has no partner; the left row 3 has an unknown trust.
+    let mut store = Store::new(tables::facts(&facts), report);
+    let entries = [[cell(1_300), 1, 1_300], [0, 1, 1_500], [cell(993), 1, UNKNOWN]];
+    store.test("a free group between trusts", "20 70 A 5f B", 15, &entries);
+    let mut store = Store::new(tables::w(), report);
+    store.test("a trust that a join has lessened", "10 5f A B", 15, &[[cell(1_800), 2, 1_200]]);
+    store.test(
+        "unknown trusts, also of a free cell",
+        "30 5f A A",
+        15,
+        &[[cell(1_800), 1, 1_800], [UNKNOWN_CELL, 1, UNKNOWN], [0, 2, UNKNOWN]],
+    );
+}
+
+/// One row, no row, and cells and trusts at their ends.
+pub fn few(report: &mut Report) {
+    let last_term = 1_048_575;
+    let mut store = Store::new(tables::fact([last_term, 1, last_term], Some(-1_000)).to_vec(), report);
+    store.test("the greatest term and the least trust", "01 100000 000001 100001", 0, &[[last_term, 1, 0]]);
+    store.test("the cell above it", "5f 01 100000 000001 100001", 15, &[[last_term + 1, 1, 0]]);
+    let mut store = Store::new(tables::w(), report);
+    for variable in 0..VARIABLES {
+        store.test("the row of the empty set", "00", variable, &[[0, 1, 2_000]]);
+        store.test("no row", "N", variable, &[]);
+        store.test("no row that is kept", "40 4070 S", variable, &[]);
+    }
+}

@@ -1,0 +1,318 @@
+//! Tests `randwyler_totals_of` of the built archive: vectors, entries and refusals by hand, independent totals (groups.rs) in row
+//! spaces and with outputs of awkward lengths, totals beside the evaluation, limits, 65,535 rows, and the stack it needs. The last
+//! line is 'N passed, M failed'.
+
+mod chains;
+mod conditions;
+mod fence;
+mod ffi;
+mod groups;
+mod inputs;
+mod known_totals;
+mod limits;
+mod many_groups;
+mod outputs;
+mod paper;
+mod queries;
+mod random;
+mod refused_totals;
+mod report;
+mod rows;
+mod spaces;
+mod stack;
+mod tables;
+mod threads;
+mod vectors;
+
+use chains::Chain;
+use groups::{Group, Totals, GROUP_WORDS};
+use limits::{AtLimit, NullInput, TableAtLimit};
+use outputs::Outputs;
+use paper::{Refusal, Tally, Totalled, CHECK_LIMIT, MOST_RECORDS, NONE, VARIABLES};
+use queries::KINDS;
+use random::Random;
+use report::Report;
+use rows::{Outcome, Value, MOST_ROWS, ROW_WORDS};
+use stack::Deepest;
+use std::collections::BTreeMap;
+
+const RANDOM_CASES: usize = 105_000;
+/// Random cases are evaluated as far as so many rows of space, and left out if they take more steps.
+const MOST_SPACE: usize = 300;
+const MOST_STEPS: u64 = 10_000;
+
+/// A vector is `TABLE QUERY VARIABLE WORDS ROOM => NUMBER PLACE LENGTH ENTRIES WRITTEN`; the zeros behind the rows are left out.
+fn vectors(report: &mut Report) {
+    let mut outputs = Outputs::new(1);
+    let all = vectors::of("totals9", include_str!("../vectors/01-totals.txt"));
+    report.case(!all.is_empty(), || "01-totals.txt has no vectors".to_string());
+    for vector in all {
+        let [table, query] = [0, 1].map(|i| vectors::bytes(&vector.inputs[i]));
+        let [variable, words, room] = [2, 3, 4].map(|i| vectors::number(&vector.inputs[i]) as usize);
+        let [number, place, length] = [0, 1, 2].map(|i| vectors::number(&vector.answer[i]));
+        let [entries, mut after] = [3, 4].map(|i| vectors::words(&vector.answer[i]));
+        let what = format!("line {} of 01-totals.txt", vector.line);
+        let tally = Tally { answered: u32::from(number == 0), refused: u32::from(number != 0) };
+        let expected = Totalled { refusal: Refusal { number: number as u32, place }, length, tally };
+        after.resize(words, 0);
+        let unchanged = (1..=7).contains(&number) || (number, place) == (10, 0);
+        let outcome = rows::evaluate(&table, &query);
+        let totals = Totals::new(&outcome, variable as u32);
+        let read = totals.answer([words, room], Tally { answered: 0, refused: 0 });
+        report.case(read == (expected, (!unchanged).then_some(after), entries), || format!("{what}: groups.rs differs"));
+        outputs.test(report, &what, (&table, &query), &totals, [words, room]);
+    }
+}
+
+/// Queries about as long as a call takes, tables about as long as a table may be, and NULL.
+fn at_limits(report: &mut Report) {
+    let mut outputs = Outputs::new(2);
+    let mut test = |what: &str, table: &[u8], query: &[u8], refusal| {
+        let outcome = rows::evaluate(table, query);
+        let read = if let Outcome::Refused(refusal) = outcome { refusal } else { NONE };
+        report.case(read == refusal, || format!("{what}: rows.rs differs"));
+        for variable in [3, VARIABLES] {
+            let totals = Totals::new(&outcome, variable);
+            for words in &spaces::lengths(&outcome)[..2] {
+                for room in &outputs::rooms(&totals)[..2] {
+                    outputs.test(report, what, (table, query), &totals, [*words, *room]);
+                }
+            }
+        }
+    };
+    for AtLimit { what, query, refusal } in limits::about(CHECK_LIMIT) {
+        test(&what, &tables::w(), &query, refusal);
+    }
+    for TableAtLimit { what, table, query, refusal } in limits::of_tables() {
+        test(what, &table, &query, refusal);
+    }
+    for NullInput { what, table, query, .. } in limits::null_inputs() {
+        let (table, query) = (table.as_deref(), query.as_deref());
+        let inputs = (table.unwrap_or(&[]), query.unwrap_or(&[]));
+        let (outcome, tally) = (rows::evaluate(inputs.0, inputs.1), outputs.spaces.tally());
+        let expected = Totals::new(&outcome, 0).answer([0, 0], tally).0;
+        let got = ffi::totals_or_null((table, query), 0, None, None, tally);
+        report.totals(what, inputs, (0, 0, 0), expected, got);
+    }
+}
+
+// ---- Random cases
+
+/// A table and a query; most are sound.
+fn random_inputs(random: &mut Random, large: &[u8]) -> (Vec<u8>, Vec<u8>) {
+    let mut nested = [[0; KINDS]; KINDS];
+    let (table, query) = inputs::narrow(random, &mut nested);
+    match random.below(2_000) {
+        0 => (large.to_vec(), query),
+        1 => (table, limits::unions(CHECK_LIMIT + random.within(1, 9))),
+        2..200 => inputs::wide(random, &mut nested),
+        200..900 => inputs::unions(random),
+        _ => (table, query),
+    }
+}
+
+/// What a call may come to: its name, how often random calls must come to it, and whether one did.
+type Kind = (&'static str, u64, bool);
+
+fn unknown_cell(group: &Group) -> bool {
+    group.cell == Some(Value::Trust(None))
+}
+
+/// The kinds of an answer by its groups; none where a call is refused.
+fn kinds_of_groups(totals: &Totals, answered: bool) -> [Kind; 10] {
+    let groups: &[Group] = if answered { &totals.groups } else { &[] };
+    let some = |test: fn(&Group) -> bool| groups.iter().any(test);
+    let several = groups.len() > 1;
+    let free = groups.iter().position(|group| group.cell.is_none());
+    [
+        ("one group", 15_000, groups.len() == 1),
+        ("several groups", 25_000, several),
+        ("a free group and others", 12_000, several && free.is_some()),
+        ("a free group between others", 800, free.is_some_and(|place| place > 0 && place + 1 < groups.len())),
+        ("a group of a trust, and others", 4_000, several && some(|group| matches!(group.cell, Some(Value::Trust(_))))),
+        ("a group of the unknown trust, and others", 2_500, several && some(unknown_cell)),
+        ("rows of the unknown trust in one group", 1_500, some(|group| unknown_cell(group) && group.trusts.len() > 1)),
+        (
+            "known and unknown trusts in one group",
+            20_000,
+            some(|group| group.trusts.contains(&None) && group.trusts.iter().any(Option::is_some)),
+        ),
+        (
+            "a group whose first row has not the least trust",
+            10_000,
+            some(|group| group.least().is_some_and(|least| group.trusts[0] != Some(least))),
+        ),
+        ("rows of a group apart", 15_000, answered && totals.apart()),
+    ]
+}
+
+/// The other kinds, by lengths and refusals.
+fn kinds_of_lengths(totals: &Totals, [words, room]: [usize; 2]) -> [Kind; 10] {
+    let number = totals.refusal([words, room]).number;
+    let (needed, above) = (totals.needed(), totals.variable >= VARIABLES);
+    let (answered, refused) = (number == 0, matches!(totals.outcome, Outcome::Refused(_)));
+    let no_room = !refused && totals.outcome.refusal(words).number == 8;
+    [
+        ("no group, and no output", 25_000, answered && needed == 0 && room == 0),
+        ("an output that is just long enough", 30_000, answered && needed > 0 && room == needed),
+        ("an output that is longer", 8_000, answered && needed > 0 && room > needed),
+        ("10 for the variable alone", 10_000, number == 10 && above && !no_room),
+        ("10 for the variable before 8", 5_000, number == 10 && above && no_room),
+        ("1 to 7 before 10 for the variable", 1_500, refused && above),
+        ("8", 50_000, number == 8),
+        ("8 before 10 for the output", 15_000, number == 8 && room < needed),
+        ("10 for the output, a word too short", 30_000, number == 10 && !above && room + 1 == needed),
+        ("10 for the output, no word", 2_500, number == 10 && !above && room == 0),
+    ]
+}
+
+/// How often random calls came to each kind, and to each number.
+#[derive(Default)]
+struct Seen {
+    kinds: BTreeMap<&'static str, (u64, u64)>,
+    numbers: [u64; 11],
+}
+
+impl Seen {
+    fn count(&mut self, totals: &Totals, lengths: [usize; 2]) {
+        let number = totals.refusal(lengths).number;
+        self.numbers[number as usize] += 1;
+        for (kind, least, seen) in kinds_of_groups(totals, number == 0).into_iter().chain(kinds_of_lengths(totals, lengths))
+        {
+            let counts = self.kinds.entry(kind).or_insert((least, 0));
+            counts.1 += u64::from(seen);
+        }
+    }
+
+    fn enough(&self, report: &mut Report) {
+        for (kind, (least, count)) in &self.kinds {
+            println!("random calls with {kind}: {count}");
+            report.case(count >= least, || format!("only {count} random calls with {kind}"));
+        }
+        println!("random calls by number: {:?}", self.numbers);
+        for number in [0, 1, 2, 3, 4, 5, 6, 7, 8, 10] {
+            let count = self.numbers[number];
+            report.case(count >= 100, || format!("only {count} random calls with number {number}"));
+        }
+    }
+}
+
+fn random_cases(report: &mut Report) {
+    let (mut random, mut outputs) = (Random::new(3), Outputs::new(4));
+    let large = tables::large(MOST_RECORDS + 1);
+    let (mut seen, mut left_out) = (Seen::default(), 0);
+    for number in 0..RANDOM_CASES {
+        let (table, query) = random_inputs(&mut random, &large);
+        let evaluated = rows::evaluate_within(&table, &query, MOST_SPACE, MOST_STEPS, &mut rows::Seen::default());
+        let Some(outcome) = evaluated else {
+            left_out += 1;
+            continue;
+        };
+        let what = format!("random case {number}");
+        let totals = Totals::new(&outcome, outputs::variable(&mut random, &outcome));
+        let same = Totals::of_many(&outcome, totals.variable).groups == totals.groups;
+        report.case(same, || format!("{what}: groups.rs has other groups by a map"));
+        let (spaces, rooms) = (spaces::lengths(&outcome), outputs::rooms(&totals));
+        for lengths in [
+            [spaces[1], rooms[0]],
+            [spaces[1], rooms[1]],
+            [spaces[0], random.pick(&rooms)],
+            [random.pick(&spaces), random.pick(&rooms)],
+        ] {
+            outputs.test(report, &what, (&table, &query), &totals, lengths);
+            seen.count(&totals, lengths);
+        }
+        if totals.variable < VARIABLES {
+            let lengths = [random.pick(&spaces[..2]), random.pick(&rooms)];
+            outputs.test_beside(report, &what, (&table, &query), totals.variable, lengths);
+        }
+    }
+    println!("random cases: {}; left out: {left_out}", RANDOM_CASES - left_out);
+    report.case(RANDOM_CASES - left_out >= 100_000, || "too many random cases are left out".to_string());
+    seen.enough(report);
+}
+
+fn on_threads(report: &mut Report) {
+    let make = |random: &mut Random| loop {
+        let (table, query) = inputs::narrow(random, &mut [[0; KINDS]; KINDS]);
+        let evaluated = rows::evaluate_within(&table, &query, MOST_SPACE, MOST_STEPS / 10, &mut rows::Seen::default());
+        if let Some(outcome) = evaluated {
+            let totals = Totals::new(&outcome, outputs::variable(random, &outcome));
+            let lengths = [random.pick(&spaces::lengths(&outcome)), random.pick(&outputs::rooms(&totals))];
+            let tally = Tally { answered: random.below(9) as u32, refused: u32::MAX };
+            let (answer, after, mut written) = totals.answer(lengths, tally);
+            written.resize(lengths[1], 0x5A);
+            break (table, query, totals.variable, tally, (answer, after.unwrap_or(vec![0xA5; lengths[0]]), written));
+        }
+    };
+    threads::all_right(report, make, |(table, query, variable, tally, expected)| {
+        let (mut space, mut output) = (vec![0xA5; expected.1.len()], vec![0x5A; expected.2.len()]);
+        let got = ffi::totals(table, query, *variable, &mut space, &mut output, *tally);
+        (got, space, output) == *expected
+    });
+}
+
+/// Words of an output that does for every chain: a group for each subject, and the free one.
+const CHAIN_ROOM: usize = GROUP_WORDS * (chains::RECORDS as usize + 1);
+/// KiB of stack that do for a shallow query: the call finds groups by arrays on the stack.
+const SHALLOW: usize = 448;
+const CHAIN_TALLY: Tally = Tally { answered: 0, refused: 0 };
+
+/// What a query is answered on to measure the stack: a table, and the words of row space and output. The query for many groups, which
+/// is no chain, has a table of 65,535 subjects.
+fn chain_inputs(query: &[u8]) -> (Vec<u8>, [usize; 2]) {
+    if query == vectors::query(many_groups::LINKS) {
+        let table = many_groups::table(|i| i, many_groups::mixed);
+        return (table, [MOST_ROWS * ROW_WORDS, MOST_ROWS * GROUP_WORDS]);
+    }
+    (chains::table(), [chains::SPACE * ROW_WORDS, CHAIN_ROOM])
+}
+
+fn deepest() -> Deepest<(Totalled, Vec<u32>, Vec<u32>)> {
+    let many = Chain { name: "many groups".to_string(), query: vectors::query(many_groups::LINKS), refusal: NONE };
+    let chains = chains::all(&[], CHECK_LIMIT).into_iter().chain(chains::of_many_pairs(CHECK_LIMIT));
+    Deepest {
+        figure: "RANDWYLER_STACK_TOTALS_KIB",
+        chains: chains.chain([many]).collect(),
+        shallow: chains::of_few_pairs(),
+        shallow_kib: SHALLOW,
+        call: |query| {
+            let (table, [words, room]) = chain_inputs(query);
+            let (mut space, mut output) = (vec![0xA5; words], vec![0x5A; room]);
+            (ffi::totals(&table, query, 0, &mut space, &mut output, CHAIN_TALLY), space, output)
+        },
+        expected: |query| {
+            let (table, [words, room]) = chain_inputs(query);
+            let outcome = rows::evaluate(&table, query);
+            let (answer, after, mut written) = Totals::of_many(&outcome, 0).answer([words, room], CHAIN_TALLY);
+            written.resize(room, 0x5A);
+            (answer, after.unwrap_or(vec![0xA5; words]), written)
+        },
+    }
+}
+
+fn parts(report: &mut Report) {
+    vectors(report);
+    report.part("vectors");
+    known_totals::terms(report);
+    known_totals::records(report);
+    known_totals::trusts(report);
+    known_totals::few(report);
+    report.part("entries by hand");
+    refused_totals::first(report);
+    refused_totals::last(report);
+    refused_totals::short_outputs(report);
+    refused_totals::tallies(report);
+    refused_totals::null_pointers(report);
+    report.part("refusals by hand");
+    at_limits(report);
+    report.part("limits");
+    random_cases(report);
+    report.part("random cases");
+    many_groups::all(report);
+    report.part("65,535 rows");
+}
+
+fn main() {
+    stack::main(parts, on_threads, deepest);
+}
