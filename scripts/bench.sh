@@ -1,8 +1,8 @@
 # For bench/run and its test: sourced behind scripts/archive.sh. Products stand in target/bench.
 . scripts/packages.sh
 
-# Sets `sqlite` to what bench/evaluate is linked with: SQLite, or a stand-in that answers nothing where SQLite cannot be had, which is
-# a failure.
+# Sets `sqlite` to what bench/evaluate and bench/totals are linked with: SQLite, or a stand-in that answers nothing where SQLite cannot be
+# had, which is a failure.
 provide_sqlite() {
     sqlite=(bench/evaluate/sqlite.c -lsqlite3)
     provide libsqlite3-dev gcc -E -include sqlite3.h -x c /dev/null && return
@@ -14,6 +14,11 @@ provide_sqlite() {
 compile_evaluate() {
     compile_c "$1" bench/{clock,record}.c bench/check/table.c bench/rewrite/query.c \
         bench/evaluate/{evaluate,plain,questions,store}.c "${sqlite[@]}" -lm
+}
+
+# compile_totals OUTPUT: the program that compares and times totals, behind provide_sqlite.
+compile_totals() {
+    compile_c "$1" bench/{clock,record}.c bench/evaluate/store.c bench/totals/{group,questions,tables,totals}.c "${sqlite[@]}" -lm
 }
 
 # compile_call CALL: the program that compares and times a call that has a folder of its own.

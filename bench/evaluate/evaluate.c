@@ -110,7 +110,7 @@ static bool there(const struct bench *b, enum contender c)
 static size_t answer(struct bench *b, enum contender c, size_t question)
 {
     if (c == OURS || c == PLAIN) return evaluate(b, c, question).rows;
-    return sqlite_ask(b->db[c], question, b->space[c], b->records);
+    return sqlite_ask(b->db[c], &questions[question], b->space[c], b->records);
 }
 
 static bool same_counts(struct randwyler_evaluated a, struct randwyler_evaluated b)

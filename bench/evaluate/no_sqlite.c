@@ -12,7 +12,7 @@ void sqlite_close(struct sqlite *db)
     (void)db;
 }
 
-size_t sqlite_ask(struct sqlite *db, size_t question, uint32_t *rows, size_t room)
+size_t sqlite_ask(struct sqlite *db, const struct question *question, uint32_t *rows, size_t room)
 {
     (void)db, (void)question, (void)rows, (void)room;
     return 0;

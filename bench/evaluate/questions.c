@@ -1,18 +1,10 @@
 #include "questions.h"
 
+#include "bytes.h"
 #include "store.h"
 
-#define QUERY(...) .length = sizeof((const uint8_t[]){__VA_ARGS__}), .query = {__VA_ARGS__}
-#define TERM(term) 0, (term) >> 8, (term) & 255 /* below 65,536 */
-#define VARIABLE(v) 0x10, 0, v
-#define SET(n) n
-#define JOIN 0x10
-#define LEFT_JOIN_TRUE 0x20, 0x70
-#define FROM_500 0x60, 0x5D, 0xC7, 0xD0 /* ensure trust 500 to 1000 */
-
-/* ?0 has the grade; the samples ?1 of ?0. */
+/* ?0 has the grade. */
 #define GRADED SET(1), VARIABLE(0), TERM(GRADE), TERM(ONE_GRADE)
-#define SAMPLES SET(1), VARIABLE(0), TERM(SAMPLE), VARIABLE(1)
 /* The pan ?1 and the crew ?2 of a strike: two patterns, and a set for each. */
 #define PAN_OF(strike) VARIABLE(strike), TERM(PAN), VARIABLE(1)
 #define CREW_OF(strike) VARIABLE(strike), TERM(CREW), VARIABLE(2)

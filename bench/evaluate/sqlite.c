@@ -9,9 +9,11 @@
 #include "plain.h"
 #include "store.h"
 
+/* The last question asked stays prepared. */
 struct sqlite {
     sqlite3 *db;
-    sqlite3_stmt *asked[MOST_QUESTIONS];
+    const struct question *asked;
+    sqlite3_stmt *statement;
 };
 
 /* What the questions' parameters stand for. */
@@ -24,7 +26,7 @@ static const struct {
 static void require(sqlite3 *db, bool good)
 {
     if (good) return;
-    fprintf(stderr, "evaluate: SQLite: %s\n", sqlite3_errmsg(db));
+    fprintf(stderr, "bench: SQLite: %s\n", sqlite3_errmsg(db));
     exit(1);
 }
 
@@ -76,7 +78,7 @@ struct sqlite *sqlite_open(const uint8_t *table, size_t records, bool indexed)
 void sqlite_close(struct sqlite *lite)
 {
     if (lite == NULL) return;
-    for (size_t i = 0; i < MOST_QUESTIONS; i++) sqlite3_finalize(lite->asked[i]);
+    sqlite3_finalize(lite->statement);
     sqlite3_close(lite->db);
     free(lite);
 }
@@ -89,21 +91,22 @@ static void fetch(sqlite3_stmt *s, const struct question *q, uint32_t *row)
     row[TRUST_WORD] = sqlite3_column_type(s, trust) == SQLITE_NULL ? UNKNOWN : (uint32_t)(sqlite3_column_int(s, trust) + 1000);
 }
 
-static sqlite3_stmt *prepare_question(sqlite3 *db, const struct question *q)
+static void prepare_question(struct sqlite *lite, const struct question *q)
 {
-    sqlite3_stmt *s = prepare(db, q->sql);
+    sqlite3_finalize(lite->statement);
+    sqlite3_stmt *s = prepare(lite->db, q->sql);
     for (size_t i = 0; i < sizeof parameters / sizeof parameters[0]; i++) {
         int at = sqlite3_bind_parameter_index(s, parameters[i].name);
         if (at != 0) sqlite3_bind_int(s, at, parameters[i].value);
     }
-    return s;
+    lite->statement = s;
+    lite->asked = q;
 }
 
-size_t sqlite_ask(struct sqlite *lite, size_t question, uint32_t *rows, size_t room)
+size_t sqlite_ask(struct sqlite *lite, const struct question *q, uint32_t *rows, size_t room)
 {
-    const struct question *q = &questions[question];
-    if (lite->asked[question] == NULL) lite->asked[question] = prepare_question(lite->db, q);
-    sqlite3_stmt *s = lite->asked[question];
+    if (lite->asked != q) prepare_question(lite, q);
+    sqlite3_stmt *s = lite->statement;
     size_t count = 0;
     uint32_t surplus[ROW_WORDS];
     int status;

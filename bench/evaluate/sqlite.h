@@ -10,8 +10,8 @@ struct sqlite;
 struct sqlite *sqlite_open(const uint8_t *table, size_t records, bool indexed);
 void sqlite_close(struct sqlite *db);
 
-/* Asks questions[question] and fetches all rows, as rows of 17 words. The first asking prepares the statement. Answers how many
- * rows there are; rows that do not fit are only counted. */
-size_t sqlite_ask(struct sqlite *db, size_t question, uint32_t *rows, size_t room);
+/* Asks a question and fetches all rows, as rows of 17 words. The statement is prepared unless the question is the one asked last.
+ * Answers how many rows there are; rows that do not fit are only counted. */
+size_t sqlite_ask(struct sqlite *db, const struct question *question, uint32_t *rows, size_t room);
 
 #endif
