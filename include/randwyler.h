@@ -93,7 +93,7 @@ struct randwyler_refusal {
 #define RANDWYLER_STACK_REWRITE_KIB 272
 #define RANDWYLER_STACK_CEILING_KIB 800
 #define RANDWYLER_STACK_EVALUATE_KIB 1024
-#define RANDWYLER_STACK_TOTALS_KIB 1024
+#define RANDWYLER_STACK_TOTALS_KIB 1440
 
 /* Tests a table, and a query of at most 5,120 bytes; the refusals are 1 to 7. Two read-only slices are lent: no byte of them,
  * and no other memory, is written. */

@@ -61,7 +61,7 @@ pub const STACK_CHECK_KIB: usize = 800;
 pub const STACK_REWRITE_KIB: usize = 272;
 pub const STACK_CEILING_KIB: usize = 800;
 pub const STACK_EVALUATE_KIB: usize = 1024;
-pub const STACK_TOTALS_KIB: usize = 1024;
+pub const STACK_TOTALS_KIB: usize = 1440;
 
 /// Why a call refuses its inputs, and where; both are 0 if nothing is refused.
 #[repr(C)]

@@ -1,8 +1,9 @@
--- Chains (specs/Chains): of no rows, and with a row more; the search along a chain for a row with a word. Assumes nothing.
+-- Chains (specs/Chains): how many different cells a chain has (`bucket-apart`); chains of no rows, and with a row more; the search along a
+-- chain for a row with a word. Assumes nothing.
 use mathlib.Core.Path.{_≡_, refl, sym, ap, subst, _∙_}
 use mathlib.Core.Bool.{Bool, true, false}
 use mathlib.Core.List.{List}
-use Prim.Native.Nat.{ℕ, _+_, _-_, _≤_, _<_}
+use Prim.Native.Nat.{ℕ, _+_, _-_, _*_, _/_, _%_, _≤_, _<_}
 use native.Mathlib.Omega.{arith}
 use borrow.Author.Tests.{eqb-true, eqb-false, leb-true, leb-false}
 use lib.Dec.{eqb, leb}
@@ -11,6 +12,25 @@ use lib.Seq.{getD-set-same, getD-set-other}
 use Rattle.rows.specs.RowWords.{wordOf}
 use Rattle.totals.specs.Numbers.{FoundBefore}
 use Rattle.totals.specs.Chains.{bucketCount, mostRows, bucket, bucketAt, LastIn, Linked, Chained}
+
+-- ---- buckets
+
+low-part : (x a : ℕ) → (x % 65536 + a) % 65536 ≡ (x + a) % 65536
+low-part x a = omega arith
+
+same-low : (a l m : ℕ) → l < 65536 → m < 65536 → (l + a) % 65536 ≡ (m + a) % 65536 → l ≡ m
+same-low a l m h k e = omega arith
+
+both-parts : (x y : ℕ) → x / 65536 ≡ y / 65536 → x % 65536 ≡ y % 65536 → x ≡ y
+both-parts x y d e = omega arith
+
+-- two words with one upper part have different buckets; the words of cells have 17 upper parts, so a chain has at most 17 different cells
+pub bucket-apart : (x y : ℕ) → x / 65536 ≡ y / 65536 → bucket x ≡ bucket y → x ≡ y
+bucket-apart x y d e =
+    let a = x / 65536 * 40503 in
+    let here : bucket y ≡ (y + a) % 65536 = ap (λ (h : ℕ). (y + h * 40503) % 65536) (sym d) in
+    let low = same-low a (x % 65536) (y % 65536) (omega arith) (omega arith) (low-part x a ∙ e ∙ here ∙ sym (low-part y a)) in
+    both-parts x y d low
 
 -- ---- the chains
 
