@@ -87,8 +87,8 @@ struct randwyler_refusal {
 
 /* KiB of stack to give a call, answered or refused: what the deepest queries that were tried need, and a margin. They are chains of
  * each operator, and of each condition that has operands, as long as the call accepts (25 shapes; for evaluation 21 more, with a
- * join of many pairs; for totals those of evaluation). tests/archive/run measures what they need, and fails if it is more than
- * these. That no other query needs more is not proved. */
+ * join of many pairs; for totals those of evaluation and 65,535 groups). tests/archive/run measures what they need, and fails if it is
+ * more than these. That no other query needs more is not proved. */
 #define RANDWYLER_STACK_CHECK_KIB 800
 #define RANDWYLER_STACK_REWRITE_KIB 272
 #define RANDWYLER_STACK_CEILING_KIB 800

@@ -56,7 +56,7 @@ pub const OUTPUT_TOO_SHORT: u32 = 9;
 pub const BAD_TOTALS: u32 = 10;
 
 // KiB of stack to give a call: what the deepest queries that were tried need (25 shapes; for evaluation 21 more, and for totals the
-// same), and a margin. That no other query needs more is not proved.
+// same and 65,535 groups), and a margin. That no other query needs more is not proved.
 pub const STACK_CHECK_KIB: usize = 800;
 pub const STACK_REWRITE_KIB: usize = 272;
 pub const STACK_CEILING_KIB: usize = 800;

@@ -49,7 +49,7 @@ fn trust(word: u32) -> String {
     }
 }
 
-fn bound(variable: u32, cell: u32) -> String {
+fn binding(variable: u32, cell: u32) -> String {
     match cell {
         0 => format!("?{variable} free"),
         term if term < FIRST_TRUST_CELL => format!("?{variable}={term}"),
@@ -61,7 +61,7 @@ fn line(row: &[u32]) -> String {
     let mut line = trust(row[VARIABLES]);
     for (variable, cell) in (0..).zip(&row[..VARIABLES]) {
         if *cell != 0 {
-            line += &format!(" {}", bound(variable, *cell));
+            line += &format!(" {}", binding(variable, *cell));
         }
     }
     line
@@ -104,7 +104,7 @@ fn list_totals(table: &[u8], query: &[u8], variable: u32, tally: Tally) -> Tally
     }
     println!("totals: groups {}", answer.length as usize / GROUP_WORDS);
     for entry in output[..answer.length as usize].chunks(GROUP_WORDS) {
-        println!("{}: rows {} least trust {}", bound(variable, entry[0]), entry[1], trust(entry[2]));
+        println!("{}: rows {} least trust {}", binding(variable, entry[0]), entry[1], trust(entry[2]));
     }
     answer.tally
 }

@@ -25,8 +25,14 @@ pub fn mixed(i: u32) -> Trust {
     (i % 7 != 3).then_some((i * 37 % 2_001) as i32 - 1_000)
 }
 
+/// Cell k of those that come 16 to one of the engine's chains: the lowest 16 bits and 40,503 times the rest have one sum modulo 65,536.
+fn chained(k: u32) -> u32 {
+    let (chain, rest) = (k / 16, k % 16);
+    rest << 16 | (chain + rest * (65_536 - 40_503)) % 65_536
+}
+
 /// The cells of rows, and how many are different.
-const CELLS: [(&str, Cell, usize); 14] = [
+const CELLS: [(&str, Cell, usize); 16] = [
     ("rising cells", |i| i, MOST_ROWS),
     ("falling cells", |i| ROWS + 1 - i, MOST_ROWS),
     ("falling cells from the greatest term on", |i| TERMS - i, MOST_ROWS),
@@ -41,6 +47,8 @@ const CELLS: [(&str, Cell, usize); 14] = [
     ("16 to a residue", |i| (i % 16) << 16 | i / 16, MOST_ROWS),
     ("16 to a residue, apart", |i| (i / 4_096) << 16 | i % 4_096, MOST_ROWS),
     ("16 to a residue, residues apart", |i| (i % 16) << 16 | i / 16 * 16, MOST_ROWS),
+    ("16 to a chain", chained, MOST_ROWS),
+    ("16 to a chain, each in 8 rows", |i| chained(1 + i % 8_192), 8_192),
     ("cells that come again in another order", |i| if i <= 32_768 { i } else { 1 + i * 101 % 32_768 }, 32_768),
     ("1,000 cells in another order", |i| 1_048 * (1 + i * 7_919 % 1_000), 1_000),
 ];

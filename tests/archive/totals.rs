@@ -41,7 +41,7 @@ const RANDOM_CASES: usize = 105_000;
 const MOST_SPACE: usize = 300;
 const MOST_STEPS: u64 = 10_000;
 
-/// A vector is `TABLE QUERY VARIABLE WORDS ROOM => NUMBER PLACE LENGTH ENTRIES WRITTEN`; the zeros behind the rows are left out.
+/// A vector is `TABLE QUERY VARIABLE WORDS ROOM => NUMBER PLACE LENGTH ENTRIES ROWS`; the zeros behind the rows are left out.
 fn vectors(report: &mut Report) {
     let mut outputs = Outputs::new(1);
     let all = vectors::of("totals9", include_str!("../vectors/01-totals.txt"));

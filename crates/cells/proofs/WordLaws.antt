@@ -26,7 +26,7 @@ read-by w true e h = refl
 read-by w false e h = omega (arith, leb-false w 2000 e)
 
 -- a trust word that was read is written again
-trust-read-written : (w : ℕ) → w ≤ 2001 → trustWord (wordTrust w) ≡ w
+pub trust-read-written : (w : ℕ) → w ≤ 2001 → trustWord (wordTrust w) ≡ w
 trust-read-written w h = read-by w (leb w 2000) refl h
 
 sound-by : (w : ℕ) (b : Bool) → leb w 2000 ≡ b → Sound (cond b (known w) unknown)

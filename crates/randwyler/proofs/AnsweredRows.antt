@@ -1,6 +1,7 @@
 -- The rows of an answered query in the row space: as many as told, at most 65,535, at the front and well-formed. What a call does with
--- rows, it does with these. Assumes nothing.
-use mathlib.Core.Path.{_≡_, sym, ap, _∙_}
+-- rows, it does with these: for a query that passed the check it has the two premises of them (`ready-answers`, `ready-formed`), and
+-- then `answered-held`, `answered-rows` and `answered-few`. Assumes nothing.
+use mathlib.Core.Path.{_≡_, sym, ap, subst, _∙_}
 use mathlib.Core.List.{List}
 use Prim.Native.Nat.{ℕ, _*_, _≤_}
 use native.Mathlib.Omega.{arith}
@@ -9,16 +10,38 @@ use lib.Seq.{take-at}
 use Rattle.tsparql.specs.Lists.{Every, concatMap}
 use Rattle.tsparql.specs.Values.{Row}
 use Rattle.tsparql.specs.Query.{Node}
-use Rattle.tsparql.specs.Table.{Fact}
+use Rattle.tsparql.specs.Table.{Fact, View, factsIn}
+use Rattle.tsparql.specs.Reading.{queryNode}
 use Rattle.tsparql.specs.PatternSets.{least, setRows, rowsOver}
+use Rattle.tsparql.specs.WellFormed.{Bytes}
 use Rattle.tsparql.specs.Check.{Passes}
 use Rattle.tsparql.specs.Evaluate.{rowLength, rowWords, answer, answeredWith}
 use Rattle.tsparql.proofs.SpaceLaws.{count-space-≤}
 use Rattle.tsparql.proofs.EvaluateLaws.{answer-fits, answer-passes}
 use Rattle.rows.specs.RowWords.{rowsIn, RowFormed, RowsHeld, Front}
 use Rattle.rows.proofs.RowWordLaws.{length-written, front-rows, front-held}
+use Rattle.query.specs.Found.{nodeOf}
+use Rattle.patterns.proofs.RecordLaws.{facts-formed}
 use Rattle.evaluation.specs.Evaluations.{Answers}
+use Rattle.evaluation.specs.declared.QueryRows.{QueryRows}
+use Rattle.evaluation.proofs.ReadyLaws.{rows-formed}
 use Rattle.evaluation.specs.declared.QueryRows.the-variants as Q
+use Rattle.randwyler.specs.Answers.{Ready}
+use Rattle.randwyler.proofs.Evaluations.{ready-seen, ready-node}
+
+-- ---- of a query that passed the check
+
+module _ (v : View) (t s : List ℕ) (ready : Ready v t s) where
+  -- the answer is that of the query's tree
+  pub ready-answers : {words : ℕ} {out : List ℕ} {r : QueryRows} → Answers (factsIn v t) (nodeOf s) words out r
+      → Answers (factsIn v t) (queryNode s) words out r
+  ready-answers {words} {out} {r} a =
+      subst (λ (q : Node). Answers (factsIn v t) q words out r) (ready-node v t s ready .1) a
+
+  pub ready-formed : Bytes t → Every RowFormed (rowsOver least (factsIn v t) (queryNode s))
+  ready-formed bytes = rows-formed (factsIn v t) (facts-formed v t (ready-seen v t s ready) bytes) (queryNode s)
+
+-- ---- the rows
 
 module _ {fs : List Fact} {q : Node} {words : ℕ} {out : List ℕ} {n p k : ℕ} (formed : Every RowFormed (rowsOver least fs q))
     (a : Answers fs q words out (Q.Rows n p k)) where

@@ -1,6 +1,7 @@
 -- What the requests of document 02 ask, on the calls: whatever they answer, by their promises alone. Request 1: totals beside an
--- evaluation (`totals-calls`), and of a rewriting (`totals-rewritten-calls`). Assumes nothing.
+-- evaluation (`totals-calls`), their tally (`totals-tally-calls`), and of a rewriting (`totals-rewritten-calls`). Assumes nothing.
 use mathlib.Core.Path.{_≡_, sym, ap, subst, _∙_}
+use mathlib.Core.Bool.{true, false}
 use mathlib.Core.List.{List}
 use Prim.Native.Nat.{ℕ}
 use lib.ListN.{length, take}
@@ -8,10 +9,10 @@ use Rattle.tsparql.specs.Table.{wholeTable, factsIn}
 use Rattle.tsparql.specs.PatternSets.{least, rowsOver}
 use Rattle.tsparql.specs.Reading.{queryNode}
 use Rattle.tsparql.specs.Rewrite.{rewrite, Accepted, written}
-use Rattle.tsparql.specs.Calls.{evaluate}
+use Rattle.tsparql.specs.Calls.{raiseOne, evaluate}
 use Rattle.tsparql.specs.Totals.{totalsUntallied, totalsCall, TotalsBeside}
 use Rattle.tsparql.proofs.ChoiceLaws.{least-sound}
-use Rattle.tsparql.proofs.TotalsLaws.{totals-evaluate, totals-rewritten}
+use Rattle.tsparql.proofs.TotalsLaws.{totals-evaluate, totals-tally, totals-rewritten}
 use Rattle.randwyler.specs.declared.Rewritten.{Rewritten}
 use Rattle.randwyler.specs.declared.Evaluated.{Evaluated}
 use Rattle.randwyler.specs.declared.Tally.{Tally}
@@ -31,6 +32,17 @@ totals-calls t s u first first′ second second′ out out′ a b x e same total
     let one =
     subst (λ y. TotalsBeside t s u rs first out (y .totals) (evaluate (tallyIn b) t s second .evaluated)) (sym totals) base in
     subst (λ y. TotalsBeside t s u rs first out (totalsIn x first′ out′ .totals) (y .evaluated)) (sym query) one
+
+-- the tally that comes back has been raised once: as answered where nothing is refused, as refused on any refusal
+pub totals-tally-calls : (t s : List ℕ) (u : ℕ) (space space′ out out′ : List ℕ) (a : Tally) (x : Totalled)
+    → totalsIn x space′ out′ ≡ totalsCall t s u space out (tallyIn a)
+    → (x .number ≡ 0 → tallyIn (x .tally) ≡ raiseOne true (tallyIn a))
+    × ((x .number ≡ 0 → ⊥) → tallyIn (x .tally) ≡ raiseOne false (tallyIn a))
+totals-tally-calls t s u space space′ out out′ a x totals =
+    let number = ap (λ y. y .totals .refusal .number) totals in
+    let tally = ap (λ y. y .tally) totals in
+    let told = totals-tally t s u space out (tallyIn a) in
+    (λ z. tally ∙ told .0 (sym number ∙ z), λ h. tally ∙ told .1 (λ z. h (number ∙ z)))
 
 -- totals of a query s and of what was written for it, by one variable, into equal outputs and in row spaces of one length: where the
 -- first are answered, the second are the same

@@ -13,12 +13,12 @@ use Rattle.tsparql.specs.Table.{Fact, View, wholeTable, factsIn}
 use Rattle.tsparql.specs.PatternSets.{least, rowsOver}
 use Rattle.tsparql.specs.Check.{refuse, noRefusal, Passes, passes, check}
 use Rattle.tsparql.specs.Reading.{queryNode}
-use Rattle.tsparql.specs.Evaluate.{answer}
+use Rattle.tsparql.specs.Evaluate.{refusedWith, answer}
 use Rattle.tsparql.specs.Calls.{Tally, raiseOne, tallied}
-use Rattle.tsparql.specs.Totals.{Totals, TotalsAnswer, totalsWords, totalsCall}
+use Rattle.tsparql.specs.Totals.{Totals, TotalsAnswer, totalsWords, totalsRefused, totalsWritten, totalsCall}
 use Rattle.tsparql.proofs.EvaluateLaws.{evaluate-checked}
-use Rattle.tsparql.proofs.TotalsLaws.{totalsRefused, totalsWritten, after-short, after-written}
-use Rattle.tsparql.proofs.TotalsLaws.{totals-checked, totals-variable, totals-evaluated}
+use Rattle.tsparql.proofs.TotalsLaws.{after-refused, after-short, after-written}
+use Rattle.tsparql.proofs.TotalsLaws.{totals-check-refuses, totals-variable, totals-evaluated}
 use Rattle.rows.specs.RowWords.{rowsIn, RowFormed}
 use Rattle.evaluation.specs.Evaluations.{Answers}
 use Rattle.evaluation.specs.declared.QueryRows.the-variants as Q
@@ -34,8 +34,10 @@ pub totals-refused : (fs : List Fact) (q : Node) (u words : ℕ) (a : Tally) (ws
     → Answers fs q words ws (Q.Refused n p) → noTotals n p ws out a ≡ totalsChecked fs q u words out a
 unfolding tallied
 totals-refused fs q u words a ws out {n} {p} e =
+    let es = totalsWords u (rowsOver least fs q) in
     let no : passes (refuse n p) ≡ false = ap (λ y. passes (y .refusal)) (e .answer-is) ∙ sym (e .sound) in
-    rw (sym (e .answer-is), no, no)
+    let x = after-refused es out (refusedWith (refuse n p) ws) (eqb-false n 0 no) in
+    rw (sym (e .answer-is), x, no)
 
 -- it is answered, and the entries of its rows are told and, where they fit, written
 module _ {fs : List Fact} {q : Node} {words : ℕ} {ws : List ℕ} {n p k : ℕ} (u : ℕ) (a : Tally) (out : List ℕ) {out′ : List ℕ} {m : ℕ}
@@ -84,12 +86,12 @@ module _ {fs : List Fact} {q : Node} {words : ℕ} {ws : List ℕ} {n p k : ℕ}
 
 -- ---- the call
 
-pub call-checked : (t s : List ℕ) (u : ℕ) (ws out : List ℕ) (a : Tally) {n p : ℕ} → Checked t s (Refused n p)
+pub call-check-refuses : (t s : List ℕ) (u : ℕ) (ws out : List ℕ) (a : Tally) {n p : ℕ} → Checked t s (Refused n p)
     → noTotals n p ws out a ≡ totalsCall t s u ws out a
 unfolding tallied
-call-checked t s u ws out a h =
+call-check-refuses t s u ws out a h =
     let no : passes (check t s) ≡ false = sym (h .sound) in
-    let x = totals-checked least (wholeTable t) t s u ws out (eqb-false (check t s .number) 0 no) in
+    let x = totals-check-refuses least (wholeTable t) t s u ws out (eqb-false (check t s .number) 0 no) in
     rw (x, h .refusal, no)
 
 module _ (v : View) (t s : List ℕ) (u : ℕ) (ws out : List ℕ) (a : Tally) (h : Ready v t s) where

@@ -13,7 +13,7 @@ use Rattle.tsparql.specs.Rewrite as Rewrite
 use Rattle.tsparql.specs.Calls as Calls
 use Rattle.tsparql.specs.Calls.{raiseOne, tallied}
 use Rattle.tsparql.specs.Totals as Totals
-use Rattle.tsparql.specs.Totals.{totalsWords, totalsAfter}
+use Rattle.tsparql.specs.Totals.{totalsWords, totalsRefused, totalsAfter}
 use Rattle.tsparql.specs.Evaluate as Evaluate
 use Rattle.tsparql.specs.Evaluate.{refusedWith, answer}
 use Rattle.tsparql.specs.PatternSets.{least, rowsOver}
@@ -105,11 +105,11 @@ totalsIn r ws out =
 -- a refusal with length 0, counted as refused
 abbrev pub noTotals : ℕ → ℕ → List ℕ → List ℕ → Calls.Tally → Totals.TotalsAnswer
 noTotals n p ws out a =
-    record { totals = record { refusal = refuse n p; size = 0; rowSpace = ws; output = out }; tally = raiseOne false a }
+    record { totals = totalsRefused (refuse n p) ws out; tally = raiseOne false a }
 
 -- such an answer; row space and output are whatever they are
-abbrev pub TotalsRefused : ℕ → ℕ → Calls.Tally → Totalled → Type 0
-TotalsRefused n p a r = (ws out : List ℕ) → totalsIn r ws out ≡ noTotals n p ws out a
+abbrev pub TotalsRefusedWith : ℕ → ℕ → Calls.Tally → Totalled → Type 0
+TotalsRefusedWith n p a r = (ws out : List ℕ) → totalsIn r ws out ≡ noTotals n p ws out a
 
 -- the totals of a checked query in so many words of row space, counted by their refusal
 abbrev pub totalsChecked : List Fact → Node → ℕ → ℕ → List ℕ → Calls.Tally → Totals.TotalsAnswer
@@ -117,5 +117,6 @@ totalsChecked fs q u words out a =
     let x : Totals.Totals = totalsAfter (answer least fs q words) (totalsWords u (rowsOver least fs q)) out in
     record { totals = x; tally = tallied a (x .refusal) }
 
+-- the answer is these totals
 abbrev pub TotalsAnswered : Table.View → List ℕ → List ℕ → ℕ → List ℕ → List ℕ → Calls.Tally → List ℕ → List ℕ → Totalled → Type 0
 TotalsAnswered v t s u ws out a ws′ out′ r = totalsIn r ws′ out′ ≡ totalsChecked (factsIn v t) (queryNode s) u (length ws) out a

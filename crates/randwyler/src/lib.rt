@@ -9,7 +9,7 @@ ghost use Rattle.tsparql.specs.Totals.{totalsCall};
 ghost use Rattle.patterns.specs.Matching.{viewOf};
 ghost use Rattle.randwyler.specs.Answers.{Checked, refusalIn, rewrittenIn, ceilingIn};
 ghost use Rattle.randwyler.specs.Answers.{tallyIn, evaluatedIn, RefusedWith, Ready, Answered};
-ghost use Rattle.randwyler.specs.Answers.{totalsIn, TotalsRefused, TotalsAnswered};
+ghost use Rattle.randwyler.specs.Answers.{totalsIn, TotalsRefusedWith, TotalsAnswered};
 use ceiling::CeilingRead;
 use ceiling::ceiling_node;
 use evaluation::QueryRows;
@@ -261,7 +261,7 @@ pub struct Totalled {
 
 // A refusal is counted as refused.
 fn totals_refused(number: u32, place: usize, a: Tally) -> Totalled
-    ensures { λ r. ⌜ TotalsRefused number place (tallyIn a) r ⌝ }
+    ensures { λ r. ⌜ TotalsRefusedWith number place (tallyIn a) r ⌝ }
 {
     let tally = with_refused(a);
     Totalled {
@@ -309,8 +309,8 @@ fn totals_checked(
 }
 
 // For each different cell of a variable in the rows of an evaluation, an entry of 3 words in a lent output: the cell, how many rows have
-// it, their least trust. Refusals 1 to 7, 10 for the variable, 8, and 10 for an output that is too short. The row space ends as after
-// the evaluation; past the entries, and on a refusal, the output is unchanged.
+// it, their least trust. Refusals 1 to 7 and 10 for the variable, with the row space untouched; 8 with it all zero; and 10 for an output
+// that is too short, with the rows in it as in an answer. Behind the entries, and on a refusal, the output is as it was.
 #[no_mangle]
 pub extern "C" fn randwyler_totals_of(
     table: &[u8],

@@ -6,28 +6,28 @@ use mathlib.Core.List.{List, [], _∷_, _++_, map}
 use Prim.Native.Nat.{ℕ, zero, suc, _+_, _-_, _*_, _≤_, _<_}
 use native.Mathlib.Nat.{not-suc-le-zero, le-refl}
 use native.Mathlib.Omega.{arith}
-use borrow.Author.Tests.{eqb-true, eqb-false, leb-false, lt-leb, le-leb}
-use lib.Dec.{eqb, leb}
-use lib.ListN.{length, drop, getD, set, length-append, length-map, length-drop, length-set, List·getD-map}
+use borrow.Author.Tests.{eqb-true, eqb-false, lt-leb, le-leb}
+use lib.Dec.{eqb}
+use lib.ListN.{length, drop, getD, set, length-append, length-map, length-drop, length-set, List·getD-append, List·getD-map}
 use lib.Seq.{drop-drop}
 use Rattle.tsparql.specs.Lists.{concatMap, distinctBy}
-use Rattle.tsparql.specs.Values.{Sound, known, unknown, free, Row, lesser, sameCell}
+use Rattle.tsparql.specs.Values.{Sound, free, Row, lesser, sameCell}
 use Rattle.tsparql.specs.Evaluate.{rowLength, cellWord, trustWord}
-use Rattle.tsparql.specs.Totals.{Group, cellOf, rowsWith, leastTrust, groupOf, groups, groupWords, totalsWords}
-use Rattle.tsparql.proofs.ListLaws.{length-keepIf, concatMap-append}
+use Rattle.tsparql.specs.Totals.{Group, cellOf, rowsWith, leastTrust, groupOf, groups, groupLength, groupWords, totalsWords}
+use Rattle.tsparql.proofs.ListLaws.{getD-any, length-keepIf, concatMap-append}
 use Rattle.tsparql.proofs.RowLaws.{SoundRow}
 use Rattle.tsparql.proofs.TrustLaws.{sound-lesser-right}
 use Rattle.tsparql.proofs.SumLaws.{length-distinct}
 use Rattle.tsparql.proofs.TotalsLaws.{length-groupsWords}
 use Rattle.cells.specs.Words.{wordTrust}
-use Rattle.cells.proofs.WordLaws.{trust-written-read, word-sound, cell-read-written}
+use Rattle.cells.proofs.WordLaws.{trust-written-read, trust-read-written, word-sound, cell-read-written}
 use Rattle.rows.specs.RowWords.{rowAt, wordOf, rowsIn, RowHeldAt, RowsHeld}
 use Rattle.rows.proofs.RowWordLaws.{length-rowsIn, rowsIn-add, rowsIn-suc, getD-wordsAt, held-row}
 use Rattle.rows.proofs.OperatorLaws.{held-at-cell-small, held-at-trust-small}
 use Rattle.totals.specs.Numbers.{cellsIn, NumberOf, Numbers}
 use Rattle.totals.specs.Entries.{newEntry, moreEntry, Addable, Added, entered, Entered}
 use Rattle.totals.proofs.GroupLaws.{withRow, ofRow, noGroup, groups-new, groups-old, length-groups, groups-grow}
-use Rattle.totals.proofs.NumberLaws.{cell-word, getD-any}
+use Rattle.totals.proofs.NumberLaws.{cell-word}
 
 -- ---- entries as words
 
@@ -37,17 +37,14 @@ module _ (rest : List ℕ) where
   words gs = concatMap groupWords gs ++ rest
 
   -- the words of entry s
-  words-count : (gs : List Group) (s : ℕ) → s < length gs → getD (words gs) (3 * s + 1) 0 ≡ getD gs s noGroup .count
-  words-count [] s h = absurd (not-suc-le-zero h)
-  words-count (x ∷ gs) zero h = refl
-  words-count (x ∷ gs) (suc s) h =
-      let e : 3 * suc s + 1 ≡ suc (suc (suc (3 * s + 1))) = omega arith in rw e (words-count gs s (omega arith))
-
-  words-trust : (gs : List Group) (s : ℕ) → s < length gs → getD (words gs) (3 * s + 2) 0 ≡ trustWord (getD gs s noGroup .trust)
-  words-trust [] s h = absurd (not-suc-le-zero h)
-  words-trust (x ∷ gs) zero h = refl
-  words-trust (x ∷ gs) (suc s) h =
-      let e : 3 * suc s + 2 ≡ suc (suc (suc (3 * s + 2))) = omega arith in rw e (words-trust gs s (omega arith))
+  words-at : (gs : List Group) (s j : ℕ) → s < length gs → j < groupLength
+      → getD (words gs) (groupLength * s + j) 0 ≡ getD (groupWords (getD gs s noGroup)) j 0
+  words-at [] s j h k = absurd (not-suc-le-zero h)
+  words-at (x ∷ gs) zero j h k =
+      let e : groupLength * 0 + j ≡ j = omega arith in
+      rw e (List·getD-append (groupWords x) (concatMap groupWords gs ++ rest) 0 j k)
+  words-at (x ∷ gs) (suc s) j h k =
+      let e : groupLength * suc s + j ≡ suc (suc (suc (groupLength * s + j))) = omega arith in rw e (words-at gs s j (omega arith) k)
 
   -- count and trust of entry s are set
   words-set : (gs : List Group) (s : ℕ) (y : Group) → s < length gs → y .cell ≡ getD gs s noGroup .cell
@@ -85,13 +82,6 @@ leastTrust-sound : (rs : List Row) → Sound (leastTrust rs)
 unfolding leastTrust
 leastTrust-sound [] = le-refl 2000
 leastTrust-sound (r ∷ rs) = sound-lesser-right (r .trust) (leastTrust rs) (leastTrust-sound rs)
-
-trust-word-read : (w : ℕ) → w ≤ 2001 → trustWord (wordTrust w) ≡ w
-trust-word-read w h = go (leb w 2000) refl
-  where
-    go : (b : Bool) → leb w 2000 ≡ b → trustWord (cond b (known w) unknown) ≡ w
-    go true e = refl
-    go false e = omega (arith, leb-false w 2000 e)
 
 -- after i of n rows: their entries stand at the front, k of them, and behind them nothing has changed
 pub record Entering (u n : ℕ) (ws first : List ℕ) (i k : ℕ) (out : List ℕ) : Type 0 where
@@ -134,13 +124,13 @@ module _ {u n : ℕ} {ws first : List ℕ} {i k : ℕ} {out : List ℕ} (held : 
 
   -- the row's words
   cell-of : cellWord (cellOf u r) ≡ wordOf u i ws
-  cell-of = ap cellWord (cell-word u n ws inside i) ∙ cell-read-written (wordOf u i ws) (held-at-cell-small i ws held-at u inside)
+  cell-of = ap cellWord (cell-word u ws inside i) ∙ cell-read-written (wordOf u i ws) (held-at-cell-small i ws held-at u inside)
 
   trust-is : r .trust ≡ wordTrust (getD ws (rowLength * i + 16) 0)
   trust-is = ap wordTrust (getD-wordsAt i ws 16 (omega arith))
 
   trust-of : trustWord (r .trust) ≡ getD ws (rowLength * i + 16) 0
-  trust-of = ap trustWord trust-is ∙ trust-word-read (getD ws (rowLength * i + 16) 0) (held-at-trust-small i ws held-at)
+  trust-of = ap trustWord trust-is ∙ trust-read-written (getD ws (rowLength * i + 16) 0) (held-at-trust-small i ws held-at)
 
   sound-row : SoundRow r
   sound-row = rw trust-is (word-sound (getD ws (rowLength * i + 16) 0))
@@ -160,12 +150,12 @@ module _ {u n : ℕ} {ws first : List ℕ} {i k : ℕ} {out : List ℕ} (held : 
         ∙ ap (groupOf u rs) place
 
     counted : getD out (3 * s + 1) 0 ≡ length (rowsWith u (cellOf u r) rs)
-    counted = rw (a .is) (words-count rest gs s (omega (arith, a .count)) ∙ ap (λ (x : Group). x .count) group-at)
+    counted = rw (a .is) (words-at rest gs s 1 (omega (arith, a .count)) (omega arith) ∙ ap (λ (x : Group). x .count) group-at)
 
     trusted : wordTrust (getD out (3 * s + 2) 0) ≡ getD gs s noGroup .trust
     trusted =
         rw (a .is)
-        (ap wordTrust (words-trust rest gs s (omega (arith, a .count)))
+        (ap wordTrust (words-at rest gs s 2 (omega (arith, a .count)) (omega arith))
         ∙ rw group-at (trust-written-read (leastTrust (rowsWith u (cellOf u r) rs)) (leastTrust-sound (rowsWith u (cellOf u r) rs))))
 
     count-small : getD out (3 * s + 1) 0 < 4294967295

@@ -1,36 +1,23 @@
 -- Groups of rows, a row more: a new group behind the others (`groups-new`), or one group with a row more (`groups-old`). Assumes nothing.
 use mathlib.Core.Path.{_≡_, refl, sym, ap, ap₂, _∙_}
 use mathlib.Core.Bool.{Bool, true, false, not, or-true}
-use mathlib.Core.List.{List, [], _∷_, _++_, map, append-nil, append-assoc}
+use mathlib.Core.List.{List, [], _∷_, _++_, map, append-nil}
 use Prim.Native.Nat.{ℕ, zero, suc, _+_, _≤_, _<_}
-use native.Mathlib.Nat.{not-suc-le-zero, le-refl}
+use native.Mathlib.Nat.{not-suc-le-zero}
 use native.Mathlib.Omega.{arith}
 use borrow.Author.Tests.{not-true}
 use lib.ListN.{length, getD, set, length-append, length-map}
 use Rattle.tsparql.specs.Lists.{Every, consIf, keepIf, anyPass, distinctBy}
-use Rattle.tsparql.specs.Values.{Sound, Trust, known, unknown, Cell, free, Row, lesser, sameCell}
+use Rattle.tsparql.specs.Values.{Trust, unknown, Cell, free, Row, lesser, sameCell}
 use Rattle.tsparql.specs.Totals.{Group, cellOf, differentCells, rowsWith, leastTrust, groupOf, groups}
 use Rattle.tsparql.proofs.ListLaws.{every-weaken, every-at, every-keepIf, anyPass-fails, anyPass-map, keepIf-append, keepIf-none}
 use Rattle.tsparql.proofs.ListLaws.{keepIf-passes, map-append}
-use Rattle.tsparql.proofs.SumLaws.{same-sym, every-distinct, distinct-more}
+use Rattle.tsparql.proofs.SumLaws.{same-sym, every-distinct, distinct-old, distinct-new, distinct-grow}
+use Rattle.tsparql.proofs.TrustLaws.{lesser-assoc, lesser-top, lesser-comm-top}
 use Rattle.tsparql.proofs.Cardinalities.{sameCell-refl, cell-same}
 use Rattle.tsparql.proofs.RowLaws.{SoundRow}
 
 -- ---- trusts
-
-lesser-assoc : (a b c : Trust) → lesser a (lesser b c) ≡ lesser (lesser a b) c
-lesser-assoc (known a) (known b) (known c) = ap known (omega arith)
-lesser-assoc (known a) (known b) unknown = refl
-lesser-assoc (known a) unknown c = refl
-lesser-assoc unknown b c = refl
-
-lesser-comm-top : (t : Trust) → lesser t (known 2000) ≡ lesser (known 2000) t
-lesser-comm-top (known a) = ap known (omega arith)
-lesser-comm-top unknown = refl
-
-lesser-top : (t : Trust) → Sound t → lesser (known 2000) t ≡ t
-lesser-top (known a) h = ap known (omega arith)
-lesser-top unknown h = refl
 
 leastTrust-more : (rs : List Row) (r : Row) → leastTrust (rs ++ (r ∷ [])) ≡ lesser (leastTrust rs) (r .trust)
 unfolding leastTrust
@@ -76,14 +63,6 @@ module _ (u : ℕ) (rs : List Row) (r : Row) where
   map-other (d ∷ ds) e = ap₂ (λ (x : Group) (xs : List Group). x ∷ xs) (group-other d (e .0)) (map-other ds (e .1))
 
 -- ---- the different cells
-
-module _ (cs : List Cell) (c : Cell) where
-  -- a cell that stands there already adds none
-  pub distinct-old : anyPass (sameCell c) cs ≡ true → distinctBy sameCell (cs ++ (c ∷ [])) ≡ distinctBy sameCell cs
-  distinct-old e = distinct-more sameCell cell-same cs c ∙ rw e (append-nil (distinctBy sameCell cs))
-
-  pub distinct-new : anyPass (sameCell c) cs ≡ false → distinctBy sameCell (cs ++ (c ∷ [])) ≡ distinctBy sameCell cs ++ (c ∷ [])
-  distinct-new e = distinct-more sameCell cell-same cs c ∙ rw e
 
 every-among : (cs : List Cell) → Every (λ d. anyPass (sameCell d) cs ≡ true) cs
 every-among [] = tt
@@ -135,7 +114,7 @@ module _ (u : ℕ) (rs : List Row) (r : Row) where
       ∙ rw none (ap (λ (t : Trust). record { cell = own; count = 1; trust = t }) (lesser-top (r .trust) sound)) in
       let other : Every (λ d. sameCell d own ≡ false) cs =
       every-weaken (λ d h. same-sym sameCell cell-same d own ∙ h) cs (anyPass-fails (sameCell own) cs e) in
-      ap (map f) (ap (distinctBy sameCell) cells-more ∙ distinct-new cs own e)
+      ap (map f) (ap (distinctBy sameCell) cells-more ∙ distinct-new sameCell cell-same cs own e)
       ∙ map-append f (distinctBy sameCell cs) (own ∷ [])
       ∙ ap₂ (λ (xs : List Group) (x : Group). xs ++ (x ∷ []))
       (map-other u rs r (distinctBy sameCell cs) (every-distinct sameCell (λ d. sameCell d own ≡ false) cs other))
@@ -150,7 +129,7 @@ module _ (u : ℕ) (rs : List Row) (r : Row) where
       rw e
       at (every-at (λ d. anyPass (sameCell d) cs ≡ true) (distinctBy sameCell cs) s free h
       (every-distinct sameCell (λ d. anyPass (sameCell d) cs ≡ true) cs (every-among cs))) in
-      ap (map (groupOf u (rs ++ (r ∷ [])))) (ap (distinctBy sameCell) cells-more ∙ distinct-old cs own here)
+      ap (map (groupOf u (rs ++ (r ∷ [])))) (ap (distinctBy sameCell) cells-more ∙ distinct-old sameCell cell-same cs own here)
       ∙ at-place (distinctBy sameCell cs) s (distinct-once cs) h e
     where
       at-place : (ds : List Cell) (s : ℕ) → Once ds → s < length ds → getD ds s free ≡ own
@@ -172,20 +151,9 @@ pub length-groups : (u : ℕ) (rs : List Row) → length (groups u rs) ≡ lengt
 unfolding groups
 length-groups u rs = length-map (differentCells u rs) (groupOf u rs)
 
-distinct-grow : (xs ys : List Cell) → length (distinctBy sameCell xs) ≤ length (distinctBy sameCell (xs ++ ys))
-distinct-grow xs [] = rw (append-nil xs) (le-refl _)
-distinct-grow xs (y ∷ ys) =
-    let ds = distinctBy sameCell xs in
-    let one =
-    ap length (distinct-more sameCell cell-same xs y) ∙ length-append ds (consIf (not (anyPass (sameCell y) xs)) y []) in
-    let rest = distinct-grow (xs ++ (y ∷ [])) ys in
-    let same : (xs ++ (y ∷ [])) ++ ys ≡ xs ++ (y ∷ ys) = append-assoc xs (y ∷ []) ys in
-    let more = ap (λ (l : List Cell). length (distinctBy sameCell l)) same in
-    omega (arith, one, rest, more)
-
 -- more rows have no fewer groups
 pub groups-grow : (u : ℕ) (rs qs : List Row) → length (groups u rs) ≤ length (groups u (rs ++ qs))
 groups-grow u rs qs =
-    let grow = distinct-grow (map (cellOf u) rs) (map (cellOf u) qs) in
+    let grow = distinct-grow sameCell cell-same (map (cellOf u) rs) (map (cellOf u) qs) in
     let both = ap (λ (l : List Cell). length (distinctBy sameCell l)) (map-append (cellOf u) rs qs) in
     omega (arith, grow, both, length-groups u rs, length-groups u (rs ++ qs))

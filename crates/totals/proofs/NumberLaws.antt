@@ -1,8 +1,8 @@
--- Numbering rows by their cells: words and cells; one row more; and the loop over all rows (`Run`). Assumes nothing.
+-- Numbering rows by their cells: words and cells; one row more; and the loop over all rows (`NumberedTo`). Assumes nothing.
 use mathlib.Core.Path.{_≡_, refl, sym, ap, _∙_}
 use mathlib.Core.Bool.{Bool, true, false, cond}
 use mathlib.Core.List.{List, [], _∷_, _++_}
-use Prim.Native.Nat.{ℕ, zero, suc, _+_, _-_, _≤_, _<_}
+use Prim.Native.Nat.{ℕ, _+_, _-_, _≤_, _<_}
 use native.Mathlib.Nat.{not-suc-le-zero}
 use native.Mathlib.Omega.{arith}
 use borrow.Author.Tests.{eqb-true, eqb-false, ne-eqb}
@@ -13,8 +13,9 @@ use Rattle.tsparql.specs.Lists.{anyPass, distinctBy}
 use Rattle.tsparql.specs.Values.{Cell, free, sameCell}
 use Rattle.tsparql.specs.Evaluate.{cellWord}
 use Rattle.tsparql.specs.Totals.{cellOf}
-use Rattle.tsparql.proofs.ListLaws.{every-each, anyPass-none, anyPass-at, map-append}
-use Rattle.tsparql.proofs.Cardinalities.{sameCell-true, sameCell-refl}
+use Rattle.tsparql.proofs.ListLaws.{getD-any, every-each, anyPass-none, anyPass-at, map-append}
+use Rattle.tsparql.proofs.SumLaws.{distinct-old, distinct-new}
+use Rattle.tsparql.proofs.Cardinalities.{sameCell-true, sameCell-refl, cell-same}
 use Rattle.cells.specs.Words.{wordCell}
 use Rattle.cells.proofs.WordLaws.{cell-read-written}
 use Rattle.rows.specs.RowWords.{wordsAt, rowAt, wordOf, rowsIn, RowsHeld}
@@ -22,7 +23,6 @@ use Rattle.rows.proofs.RowWordLaws.{length-rowsIn, rowsIn-suc, getD-rowsIn, cel
 use Rattle.rows.proofs.OperatorLaws.{held-at-cell-small}
 use Rattle.totals.specs.Numbers.{cellsIn, FoundBefore, numberFrom, NumberOf, Numbered, Numbers}
 use Rattle.totals.specs.Chains.{Chained}
-use Rattle.totals.proofs.GroupLaws.{distinct-old, distinct-new}
 
 -- ---- words and cells
 
@@ -39,13 +39,12 @@ same-word x y h k = go (eqb x y) refl
     go true e = rw (eqb-true x y e) (sameCell-refl (wordCell y))
     go false e = differ (eqb-false x y e) (sameCell (wordCell x) (wordCell y)) refl
 
-module _ (u n : ℕ) (ws : List ℕ) (inside : u < 16) where
-  -- the cell of a row, by its word
-  pub cell-word : (i : ℕ) → cellOf u (rowAt i ws) ≡ wordCell (wordOf u i ws)
-  cell-word i = cellAt-rowIn (wordsAt i ws) u inside ∙ ap wordCell (getD-wordsAt i ws u (omega arith))
+-- the cell of a row, by its word
+pub cell-word : (u : ℕ) (ws : List ℕ) → u < 16 → (i : ℕ) → cellOf u (rowAt i ws) ≡ wordCell (wordOf u i ws)
+cell-word u ws inside i = cellAt-rowIn (wordsAt i ws) u inside ∙ ap wordCell (getD-wordsAt i ws u (omega arith))
 
-  cellsIn-more : (i : ℕ) → cellsIn u (i + 1) ws ≡ cellsIn u i ws ++ (cellOf u (rowAt i ws) ∷ [])
-  cellsIn-more i = rw (rowsIn-suc i ws) (map-append (cellOf u) (rowsIn i ws) (rowAt i ws ∷ []))
+cellsIn-more : (u : ℕ) (ws : List ℕ) (i : ℕ) → cellsIn u (i + 1) ws ≡ cellsIn u i ws ++ (cellOf u (rowAt i ws) ∷ [])
+cellsIn-more u ws i = rw (rowsIn-suc i ws) (map-append (cellOf u) (rowsIn i ws) (rowAt i ws ∷ []))
 
 -- ---- the different cells, one more
 
@@ -57,18 +56,12 @@ distinct-stays cs c s d e h k = go (anyPass (sameCell c) cs) refl
   where
     go : (b : Bool) → anyPass (sameCell c) cs ≡ b
         → (s < length (distinctBy sameCell (cs ++ (c ∷ [])))) × (getD (distinctBy sameCell (cs ++ (c ∷ []))) s d ≡ e)
-    go true f = rw (distinct-old cs c f) (h, k)
+    go true f = rw (distinct-old sameCell cell-same cs c f) (h, k)
     go false f =
         let ds = distinctBy sameCell cs in
-        rw (distinct-new cs c f) (omega (arith, length-append ds (c ∷ [])), List·getD-append ds (c ∷ []) d s h ∙ k)
+        rw (distinct-new sameCell cell-same cs c f) (omega (arith, length-append ds (c ∷ [])), List·getD-append ds (c ∷ []) d s h ∙ k)
 
 -- ---- one row more
-
--- an element, whatever stands in for one behind the end
-pub getD-any : {A : Type 0} (xs : List A) (m : ℕ) (d e : A) → m < length xs → getD xs m d ≡ getD xs m e
-getD-any [] m d e l = absurd (not-suc-le-zero l)
-getD-any (x ∷ xs) zero d e l = refl
-getD-any (x ∷ xs) (suc m) d e l = getD-any xs m d e (omega arith)
 
 -- the first i rows are numbered, and k numbers are in use: how it went, and where each number stands now
 pub record Numbering (u : ℕ) (ws numbers : List ℕ) (i k : ℕ) : Type 0 where
@@ -118,7 +111,7 @@ module _ {u : ℕ} {ws numbers : List ℕ} {i k : ℕ} (n : ℕ) (held : RowsHel
     grown : NumberOf cs c s → (k′ : ℕ) → k′ ≡ length (distinctBy sameCell (cs ++ (c ∷ []))) → k′ ≤ i + 1 → k ≤ k′ → s < k′
         → getD (distinctBy sameCell (cs ++ (c ∷ []))) s free ≡ c → Numbering u ws next (i + 1) k′
     grown own k′ e few more l p =
-        let cells = cellsIn-more u n ws inside i in
+        let cells = cellsIn-more u ws i in
         record {
           count = rw cells e;
           few = few;
@@ -145,7 +138,7 @@ module _ {u : ℕ} {ws numbers : List ℕ} {i k : ℕ} (n : ℕ) (held : RowsHel
   numbering-new none =
       let other = every-each (λ d. sameCell c d ≡ false) cs free (λ m l. differs m (rw length-cells at l)) in
       let fresh : anyPass (sameCell c) cs ≡ false = anyPass-none (sameCell c) cs other in
-      let more = distinct-new cs c fresh in
+      let more = distinct-new sameCell cell-same cs c fresh in
       let long = length-append (distinctBy sameCell cs) (c ∷ []) in
       grown k
       (record {
@@ -162,20 +155,20 @@ module _ {u : ℕ} {ws numbers : List ℕ} {i k : ℕ} (n : ℕ) (held : RowsHel
     where
       differs : (m : ℕ) → m < i → sameCell c (getD cs m free) ≡ false
       differs m l =
-          rw (cell-at m l, cell-word u n ws inside m, cell-word u n ws inside i)
+          rw (cell-at m l, cell-word u ws inside m, cell-word u ws inside i)
           (same-word (wordOf u i ws) (wordOf u m ws) (small i h) (small m (omega arith))
           ∙ ne-eqb (wordOf u i ws) (wordOf u m ws) (λ e. none m l (sym e)))
 
   -- the number of a row before that has the cell
   numbering-old : (m : ℕ) → m < i → wordOf u m ws ≡ wordOf u i ws → Numbering u ws (set numbers i (getD numbers m 0)) (i + 1) k
   numbering-old m l e =
-      let same : cellOf u (rowAt m ws) ≡ c = cell-word u n ws inside m ∙ ap wordCell e ∙ sym (cell-word u n ws inside i) in
+      let same : cellOf u (rowAt m ws) ≡ c = cell-word u ws inside m ∙ ap wordCell e ∙ sym (cell-word u ws inside i) in
       let old = a .now m l in
       let s = getD numbers m 0 in
       let long : m < length cs = rw length-cells l in
       let here : anyPass (sameCell c) cs ≡ true = anyPass-at (sameCell c) cs m free long (rw (cell-at m l ∙ same) (sameCell-refl c)) in
       let lt : s < length (distinctBy sameCell cs) = omega (arith, old .0, a .count) in
-      let more = distinct-old cs c here in
+      let more = distinct-old sameCell cell-same cs c here in
       grown s
       (record {
         within = omega arith;
@@ -205,21 +198,22 @@ module _ {u : ℕ} {ws numbers : List ℕ} {i k : ℕ} (n : ℕ) (held : RowsHel
 -- ---- the loop
 
 -- after i of n rows: they are numbered, and chained
-pub record Run (u n : ℕ) (ws first : List ℕ) (i k : ℕ) (numbers heads links : List ℕ) : Type 0 where
+pub record NumberedTo (u n : ℕ) (ws first : List ℕ) (i k : ℕ) (numbers heads links : List ℕ) : Type 0 where
   pub within : i ≤ n
   pub len : length numbers ≡ length first
   pub is : Numbering u ws numbers i k
   pub chains : Chained u i ws heads links
 
-pub run-none : (u n : ℕ) (ws numbers heads links : List ℕ) → Chained u 0 ws heads links → Run u n ws numbers 0 0 numbers heads links
-run-none u n ws numbers heads links c =
+pub numbered-none : (u n : ℕ) (ws numbers heads links : List ℕ) → Chained u 0 ws heads links
+    → NumberedTo u n ws numbers 0 0 numbers heads links
+numbered-none u n ws numbers heads links c =
     record { within = omega arith; len = refl; is = numbering-none u ws numbers; chains = c }
 
 module _ {u n : ℕ} {ws first : List ℕ} {i k : ℕ} {numbers heads links : List ℕ} where
-  pub run-more : RowsHeld n ws → u < 16 → i < n → n ≤ length first → Run u n ws first i k numbers heads links
+  pub numbered-more : RowsHeld n ws → u < 16 → i < n → n ≤ length first → NumberedTo u n ws first i k numbers heads links
       → (r s k′ : ℕ) (heads′ links′ : List ℕ) → FoundBefore u i (wordOf u i ws) ws r → Chained u (i + 1) ws heads′ links′
-      → s ≡ numberFrom numbers r k → k′ ≡ cond (eqb r 0) (k + 1) k → Run u n ws first (i + 1) k′ (set numbers i s) heads′ links′
-  run-more held inside h room a r s k′ heads′ links′ f c e d =
+      → s ≡ numberFrom numbers r k → k′ ≡ cond (eqb r 0) (k + 1) k → NumberedTo u n ws first (i + 1) k′ (set numbers i s) heads′ links′
+  numbered-more held inside h room a r s k′ heads′ links′ f c e d =
       record {
         within = omega arith;
         len = length-set numbers i s ∙ a .len;
@@ -227,7 +221,7 @@ module _ {u n : ℕ} {ws first : List ℕ} {i k : ℕ} {numbers heads links : Li
         chains = c;
       }
 
-  pub run-all : Run u n ws first i k numbers heads links → n ≤ i → Numbers u n ws numbers k
-  run-all a h =
+  pub numbered-all : NumberedTo u n ws first i k numbers heads links → n ≤ i → Numbers u n ws numbers k
+  numbered-all a h =
       let e : i ≡ n = omega (arith, a .within) in
       record { count = rw e at (a .is .count); each = rw e at (a .is .each) }

@@ -1,5 +1,6 @@
 -- Chains of rows by their word of a variable, so that a row with the same word is found in few steps: every row stands in front of the
--- chain of its word's bucket, and links to the row that stood there. A row is named by its number plus 1, none by 0. Assumes nothing.
+-- chain of its word's bucket, and links to the row that stood there. A row is named by its number plus 1, none by 0. The chains of joins
+-- are built from the last row on, so that they rise; these are built from the first row on and searched meanwhile. Assumes nothing.
 use mathlib.Core.Path.{_≡_}
 use mathlib.Core.List.{List}
 use Prim.Native.Nat.{ℕ, _+_, _-_, _*_, _/_, _%_, _≤_, _<_}

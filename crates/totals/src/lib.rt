@@ -38,7 +38,7 @@ fn find_before(space: &[u32], i: usize, u: usize, x: u32, last: usize, links: &[
     0
 }
 
-// Finds a row before row i with its word for variable u, and puts row i in front of its chain.
+// Puts row i in front of its chain. Answers a row before it that has its word for variable u, plus 1; 0 where none has.
 fn chain_row(space: &[u32], i: usize, u: usize, heads: &mut [u16], links: &mut [u16]) -> usize
     requires { ⌜ (17 * i + 17 ≤ length (now space)) × (u < 16) × (i < mostRows) × Chained u i (now space) (now heads) (now links) ⌝ }
     ensures { λ r. ⌜ FoundBefore u i (wordOf u i (now (space .entry))) (now (space .entry)) r

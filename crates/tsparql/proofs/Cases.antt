@@ -1,8 +1,8 @@
 -- The worked cases of document 01 and some more, as one table about the definitions with one proof, by computation.
--- An entry has what the definitions give on its left and what document 01 says on its right, worked out by hand (texts go through
--- `ascii`, and one printout stands in numbers). Groups: cases 1 to 9; rows, order, trust and solutions; push; conditions; ceilings and
--- tallies; totals; refusals and their places. Inputs are in hexadecimal. Printouts are computed by a form of `strikes` that works nothing
--- out twice. Assumes nothing.
+-- An entry has what the definitions give on its left and what document 01 or request 1 says on its right, worked out by hand (texts go
+-- through `ascii`, and one printout stands in numbers). Groups: cases 1 to 9; rows, order, trust and solutions; push; conditions;
+-- ceilings and tallies; totals; refusals and their places. Inputs are in hexadecimal. Printouts are computed by a form of `strikes` that
+-- works nothing out twice. Assumes nothing.
 use mathlib.Core.Path.{_≡_, refl, ap, _∙_}
 use mathlib.Core.Bool.{Bool, true, false, not, cond}
 use mathlib.Core.List.{List, [], _∷_, _++_, map, map-congr-left}
@@ -383,9 +383,9 @@ totalsCases : List Case
 totalsCases =
     -- each strike of A, and one word more; the second's sample is unknown
     (totalled A 0 34 7 gives 0 ∷ 0 ∷ 6 ∷ 1 ∷ 1 ∷ 1800 ∷ 2 ∷ 1 ∷ 2001 ∷ 7 ∷ [])
-    -- B, A and B together by ?1: the free cells of A are a group between those of B, unknown since one of its rows is
-    ∷ (totalled (hex "30" ++ (B ++ (hex "30" ++ (A ++ B)))) 1 102 9 gives
-    0 ∷ 0 ∷ 9 ∷ 11 ∷ 2 ∷ 1900 ∷ 12 ∷ 2 ∷ 1200 ∷ 0 ∷ 2 ∷ 2001 ∷ [])
+    -- B, A and {?0 20 ?1} together by ?1: the free cells of A are a group between others, unknown since one of its rows is
+    ∷ (totalled (hex "30" ++ (B ++ (hex "30" ++ (A ++ hex "01 10 00 00 00 00 14 10 00 01")))) 1 102 12
+    gives 0 ∷ 0 ∷ 12 ∷ 11 ∷ 1 ∷ 1900 ∷ 12 ∷ 1 ∷ 1200 ∷ 0 ∷ 2 ∷ 2001 ∷ 21 ∷ 2 ∷ 2001 ∷ [])
     -- the least trust of a group that has two: 900 and 200
     ∷ (totalled B 0 34 3 gives 0 ∷ 0 ∷ 3 ∷ 1 ∷ 2 ∷ 1200 ∷ [])
     -- cells that project trust made: 800, and unknown
@@ -514,9 +514,9 @@ entries : Unit {0}
 unfolding evaluated checked ceilings rewritten fields noRows bothRows worked reported quick expected
 entries = tt
 
-callers : Unit {0}
+totalling : Unit {0}
 unfolding totalled totalledSpace request evaluation totalsInto tallies
-callers = tt
+totalling = tt
 
 sets : Unit {0}
 unfolding triple tupleLines setAB setTwice solutions tuples tupleRows
@@ -556,7 +556,7 @@ text = tt
 
 -- every entry gives what it should
 quick-hold : map quick cases ≡ map expected cases
-unfolding inputs entries callers sets lists rows tables writers readers calls figures text
+unfolding inputs entries totalling sets lists rows tables writers readers calls figures text
 quick-hold = refl
 
 pub cases-hold : map computed cases ≡ map expected cases

@@ -87,6 +87,12 @@ module _ {A : Type 0} where
   every-at P (x ∷ xs) zero d h e = e .0
   every-at P (x ∷ xs) (suc i) d h e = every-at P xs i d (omega arith) (e .1)
 
+  -- an element, whatever stands in for one behind the end
+  pub getD-any : (xs : List A) (i : ℕ) (d e : A) → i < length xs → getD xs i d ≡ getD xs i e
+  getD-any [] i d e h = absurd (omega arith)
+  getD-any (x ∷ xs) zero d e h = refl
+  getD-any (x ∷ xs) (suc i) d e h = getD-any xs i d e (omega arith)
+
   pub every-each : (P : A → Type 0) (xs : List A) (d : A) → ((i : ℕ) → i < length xs → P (getD xs i d)) → Every P xs
   every-each P [] d h = tt
   every-each P (x ∷ xs) d h = (h 0 (omega arith), every-each P xs d (λ i l. h (suc i) (omega arith)))

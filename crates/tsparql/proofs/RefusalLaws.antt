@@ -30,6 +30,10 @@ orElse-passes r s z = go (passes r) refl z
     go true e w = (eqb-true (r .number) 0 e, w)
     go false e w = absurd (eqb-false (r .number) 0 e w)
 
+-- a refusal with a number applies
+pub refuse-applies : (n p : ℕ) → 1 ≤ n → Passes (refuse n p) → ⊥
+refuse-applies n p h z = let e : n ≡ 0 = z in omega arith
+
 -- a test's refusal does not apply: the test failed
 pub refuseIf-passes : (b : Bool) (n p : ℕ) → 1 ≤ n → Passes (refuseIf b n p) → b ≡ false
 refuseIf-passes true n p h z = absurd (let e : n ≡ 0 = z in omega arith)

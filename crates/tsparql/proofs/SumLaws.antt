@@ -1,12 +1,12 @@
 -- Sums over lists; a test of sameness that is equality; the distinct elements by such a test, each as often as it stands in the list
--- (`sum-distinct`), once (`keepIf-distinct`), and of one element more (`distinct-more`). Assumes nothing.
+-- (`sum-distinct`), once (`keepIf-distinct`), and of a list with one element more (`distinct-more`). Assumes nothing.
 use mathlib.Core.Path.{_≡_, refl, sym, ap, ap₂, _∙_}
 use mathlib.Core.Bool.{Bool, true, false, _&&_, _||_, not, not-and-self}
-use mathlib.Core.List.{List, [], _∷_, _++_}
+use mathlib.Core.List.{List, [], _∷_, _++_, map, append-nil, append-assoc}
 use Prim.Native.Nat.{ℕ, _+_, _*_, _≤_}
 use native.Mathlib.Nat.{le-refl, add-zero, zero-mul, mul-zero, mul-one, mul-add, suc-mul}
 use native.Mathlib.Omega.{arith}
-use lib.ListN.{length, take}
+use lib.ListN.{length, take, length-append}
 use borrow.Author.Tests.{not-true}
 use Rattle.tsparql.specs.Lists.{Every, consIf, keepIf, anyPass, distinctBy, sumOver}
 use Rattle.tsparql.specs.Cardinality.{countIf}
@@ -75,6 +75,10 @@ module _ {A : Type 0} where
         length-keepIf-sum p xs,
         sumOver-consIf (p x) x (keepIf p xs) (λ y. 1),
       )
+
+pub sumOver-map : {A B : Type 0} (f : B → ℕ) (h : A → B) (xs : List A) → sumOver (map h xs) f ≡ sumOver xs (λ x. f (h x))
+sumOver-map f h [] = refl
+sumOver-map f h (x ∷ xs) = ap (λ (n : ℕ). f (h x) + n) (sumOver-map f h xs)
 
 -- ---- a test of sameness
 
@@ -200,3 +204,22 @@ module _ {A : Type 0} (same : A → A → Bool) (tells : TellsSame same) where
       both true b false h = refl
       both false b true h = rw (sym h)
       both false b false h = rw (sym h)
+
+  -- one that stands there already adds none
+  pub distinct-old : (xs : List A) (x : A) → anyPass (same x) xs ≡ true → distinctBy same (xs ++ (x ∷ [])) ≡ distinctBy same xs
+  distinct-old xs x e = distinct-more xs x ∙ rw e (append-nil (distinctBy same xs))
+
+  -- one that does not comes last
+  pub distinct-new : (xs : List A) (x : A) → anyPass (same x) xs ≡ false → distinctBy same (xs ++ (x ∷ [])) ≡ distinctBy same xs ++ (x ∷ [])
+  distinct-new xs x e = distinct-more xs x ∙ rw e
+
+  -- a longer list has no fewer
+  pub distinct-grow : (xs ys : List A) → length (distinctBy same xs) ≤ length (distinctBy same (xs ++ ys))
+  distinct-grow xs [] = rw (append-nil xs) (le-refl _)
+  distinct-grow xs (y ∷ ys) =
+      let ds = distinctBy same xs in
+      let one = ap length (distinct-more xs y) ∙ length-append ds (consIf (not (anyPass (same y) xs)) y []) in
+      let rest = distinct-grow (xs ++ (y ∷ [])) ys in
+      let whole : (xs ++ (y ∷ [])) ++ ys ≡ xs ++ (y ∷ ys) = append-assoc xs (y ∷ []) ys in
+      let more = ap (λ (l : List A). length (distinctBy same l)) whole in
+      omega (arith, one, rest, more)

@@ -9,7 +9,7 @@ use native.Mathlib.Nat.{mul-one}
 use native.Mathlib.Omega.{arith}
 use borrow.Author.Tests.{eqb-true, eqb-false, eq-eqb, ne-eqb, lt-ltb, le-ltb, ltb-true, ltb-false}
 use lib.Dec.{ltb}
-use lib.ListN.{length, take, drop, length-map, length-append, length-drop}
+use lib.ListN.{length, drop, length-map, length-append, length-take, length-drop}
 use lib.Seq.{take-at, drop-at}
 use Rattle.tsparql.specs.Lists.{keepIf, sumOver, concatMap}
 use Rattle.tsparql.specs.Values.{Cell, Row, sameCell}
@@ -22,9 +22,10 @@ use Rattle.tsparql.specs.Evaluate.{Evaluated, refusedWith, evaluateOver}
 use Rattle.tsparql.specs.Rewrite.{Accepted, written}
 use Rattle.tsparql.specs.Calls.{Tally, raiseOne, tallied, evaluate}
 use Rattle.tsparql.specs.Totals.{Group, cellOf, differentCells, rowsWith, groupOf, groups, groupLength, groupWords, totalsWords}
-use Rattle.tsparql.specs.Totals.{countsIn, Totals, variableRefusal, outputRefusal, totalsAfter, totalsOver, totalsCall, TotalsBeside}
+use Rattle.tsparql.specs.Totals.{countsIn, Totals, variableRefusal, outputRefusal, totalsRefused, totalsWritten, totalsAfter}
+use Rattle.tsparql.specs.Totals.{totalsOver, totalsCall, TotalsBeside}
 use Rattle.tsparql.proofs.ListLaws.{keepIf-map}
-use Rattle.tsparql.proofs.SumLaws.{sumOver-same, length-sum, length-distinct, keepIf-distinct, sum-distinct}
+use Rattle.tsparql.proofs.SumLaws.{sumOver-same, sumOver-map, length-sum, length-distinct, keepIf-distinct, sum-distinct}
 use Rattle.tsparql.proofs.Cardinalities.{cell-same}
 use Rattle.tsparql.proofs.PushRows.{rows-push}
 use Rattle.tsparql.proofs.TableLaws.{facts-sound}
@@ -32,10 +33,10 @@ use Rattle.tsparql.proofs.ChoiceLaws.{setRows-sound}
 use Rattle.tsparql.proofs.QueryLaws.{check-parts, queryNode-rewriting}
 use Rattle.tsparql.proofs.RewriteLaws.{accepted-passes, accepted-written}
 use Rattle.tsparql.proofs.Demand3.{demand3-over}
-use Rattle.tsparql.proofs.RefusalLaws.{orElse-first, orElse-second}
+use Rattle.tsparql.proofs.RefusalLaws.{orElse-first, orElse-second, refuse-applies}
 use Rattle.tsparql.proofs.EvaluateLaws.{evaluate-checked, evaluate-refused, evaluate-answered, length-space, rows-peak-≤}
 use Rattle.tsparql.proofs.CallLaws.{check-fits, evaluate-refusal-fits}
-use Rattle.tsparql.proofs.EvaluateLaws.{unless-none, unless-checked, unless-refused}
+use Rattle.tsparql.proofs.EvaluateLaws.{unless-none, unless-check-refuses, unless-refused}
 
 -- ---- groups
 
@@ -46,10 +47,6 @@ groupCount x = x .count
 count-rowsWith : (u : ℕ) (c : Cell) (rs : List Row) → length (rowsWith u c rs) ≡ length (keepIf (sameCell c) (map (cellOf u) rs))
 count-rowsWith u c rs =
     sym (ap length (keepIf-map (sameCell c) (cellOf u) rs) ∙ length-map (rowsWith u c rs) (cellOf u))
-
-sumOver-map : {A B : Type 0} (f : B → ℕ) (h : A → B) (xs : List A) → sumOver (map h xs) f ≡ sumOver xs (λ x. f (h x))
-sumOver-map f h [] = refl
-sumOver-map f h (x ∷ xs) = ap (λ (n : ℕ). f (h x) + n) (sumOver-map f h xs)
 
 -- the counts of all groups add up to the rows
 pub counts-add : (u : ℕ) (rs : List Row) → sumOver (groups u rs) groupCount ≡ length rs
@@ -63,10 +60,6 @@ counts-add u rs =
     ∙ sym (length-sum cs)
     ∙ length-map rs (cellOf u)
 
-length-take-one : {A : Type 0} (xs : List A) → length (take 1 xs) ≡ min 1 (length xs)
-length-take-one [] = refl
-length-take-one (x ∷ xs) = omega arith
-
 -- the groups of a cell: one if a row has the cell, else none
 pub groups-once : (u : ℕ) (c : Cell) (rs : List Row)
     → length (keepIf (λ x. sameCell c (x .cell)) (groups u rs)) ≡ min 1 (length (rowsWith u c rs))
@@ -76,7 +69,7 @@ groups-once u c rs =
     ap length (keepIf-map (λ x. sameCell c (x .cell)) (groupOf u rs) (differentCells u rs))
     ∙ length-map (keepIf (sameCell c) (differentCells u rs)) (groupOf u rs)
     ∙ ap length (keepIf-distinct sameCell cell-same c cs)
-    ∙ length-take-one (keepIf (sameCell c) cs)
+    ∙ length-take 1 (keepIf (sameCell c) cs)
     ∙ ap (min 1) (sym (count-rowsWith u c rs))
 
 -- ---- entries
@@ -101,14 +94,6 @@ counts-entries u rs rest =
 
 -- ---- the call
 
--- nothing is written
-abbrev pub totalsRefused : Refusal → List ℕ → List ℕ → Totals
-totalsRefused r ws out = record { refusal = r; size = 0; rowSpace = ws; output = out }
-
--- the entries stand at the front of the output
-abbrev pub totalsWritten : List ℕ → List ℕ → List ℕ → Totals
-totalsWritten es ws out = record { refusal = noRefusal; size = length es; rowSpace = ws; output = es ++ drop (length es) out }
-
 module _ (es out : List ℕ) (e : Evaluated) where
   -- after an evaluation that is refused
   pub after-refused : (Passes (e .refusal) → ⊥) → totalsAfter e es out ≡ totalsRefused (e .refusal) (e .rowSpace) out
@@ -128,10 +113,10 @@ module _ (g : Aggregate) (v : View) (t s : List ℕ) (u : ℕ) (ws out : List �
   es = totalsWords u (rowsOver g (factsIn v t) (queryNode s))
 
   -- what the check refuses
-  pub totals-checked : (Passes (check t s) → ⊥) → totalsOver g v t s u ws out ≡ totalsRefused (check t s) ws out
+  pub totals-check-refuses : (Passes (check t s) → ⊥) → totalsOver g v t s u ws out ≡ totalsRefused (check t s) ws out
   unfolding totalsOver
-  totals-checked h =
-      let is = unless-checked (variableRefusal u) g v t s ws h ∙ evaluate-refused g v t s ws h in
+  totals-check-refuses h =
+      let is = unless-check-refuses (variableRefusal u) g v t s ws h ∙ evaluate-refused g v t s ws h in
       rw is (after-refused es out (refusedWith (check t s) ws) h)
 
   -- a variable above 15
@@ -139,7 +124,7 @@ module _ (g : Aggregate) (v : View) (t s : List ℕ) (u : ℕ) (ws out : List �
   unfolding totalsOver
   totals-variable z l =
       let own : variableRefusal u ≡ refuse 10 0 = rw (lt-ltb 15 u l) in
-      let no : Passes (variableRefusal u) → ⊥ = λ p. let y : _≡_ {A = ℕ} 10 0 = rw own at p in omega arith in
+      let no : Passes (variableRefusal u) → ⊥ = λ p. refuse-applies 10 0 (omega arith) (rw own at p) in
       let is = unless-refused (variableRefusal u) g v t s ws z no ∙ ap (λ (r : Refusal). refusedWith r ws) own in
       rw is
 
@@ -161,12 +146,12 @@ module _ (g : Aggregate) (v : View) (t s : List ℕ) (u : ℕ) (ws out : List �
       → P (totalsRefused (refuse 10 (length es)) (e .rowSpace) out))
       → (Passes (check t s) → u ≤ 15 → Passes (e .refusal) → length es ≤ length out → P (totalsWritten es (e .rowSpace) out))
       → P (totalsOver g v t s u ws out)
-  totals-cases P checked variable refused short written =
+  totals-cases P unchecked variable refused short written =
       go (passes (check t s)) refl (ltb 15 u) refl (passes (e .refusal)) refl (ltb (length out) (length es)) refl
     where
       go : (a : Bool) → passes (check t s) ≡ a → (b : Bool) → ltb 15 u ≡ b → (c : Bool) → passes (e .refusal) ≡ c
           → (d : Bool) → ltb (length out) (length es) ≡ d → P (totalsOver g v t s u ws out)
-      go false h b i c j d k = let z = eqb-false (check t s .number) 0 h in rw (totals-checked z) (checked z)
+      go false h b i c j d k = let z = eqb-false (check t s .number) 0 h in rw (totals-check-refuses z) (unchecked z)
       go true h true i c j d k =
           let z = eqb-true (check t s .number) 0 h in
           let l = ltb-true 15 u i in
@@ -189,26 +174,26 @@ module _ (g : Aggregate) (v : View) (t s : List ℕ) (u : ℕ) (ws out : List �
 -- ---- beside an evaluation
 
 module _ (t s : List ℕ) (u : ℕ) (rs : List Row) (ws out : List ℕ) where
-  abbrev own : List ℕ
-  own = totalsWords u rs
+  abbrev entries : List ℕ
+  entries = totalsWords u rs
 
   -- the check refuses
-  beside-checked : (ws′ : List ℕ) → (Passes (check t s) → ⊥)
+  beside-check-refuses : (ws′ : List ℕ) → (Passes (check t s) → ⊥)
       → TotalsBeside t s u rs ws out (totalsRefused (check t s) ws out) (refusedWith (check t s) ws′)
-  beside-checked ws′ h =
+  beside-check-refuses ws′ h =
       record {
         as-checked = λ _. refl;
         variable-above = λ z _. absurd (h z);
         as-evaluated = λ _ _. refl;
         output-short = λ _ z _. absurd (h z);
         answered = λ _ z _. absurd (h z);
+        size-is = λ z. absurd (h z);
         entries-written = λ z. absurd (h z);
         counts-add-up = λ z. absurd (h z);
         in-one-group = λ c. groups-once u c rs;
         rest-unchanged = refl;
         none-written = λ _. (refl, refl);
         space-as-evaluated = λ z _. absurd (h z);
-        space-as-checked = λ _. refl;
         space-untouched = λ _. refl;
       }
 
@@ -222,13 +207,13 @@ module _ (t s : List ℕ) (u : ℕ) (rs : List Row) (ws out : List ℕ) where
         as-evaluated = λ k _. absurd (omega arith);
         output-short = λ k _ _. absurd (omega arith);
         answered = λ k _ _. absurd (omega arith);
-        entries-written = λ p. absurd (let y : _≡_ {A = ℕ} 10 0 = p in omega arith);
-        counts-add-up = λ p. absurd (let y : _≡_ {A = ℕ} 10 0 = p in omega arith);
+        size-is = λ p. absurd (refuse-applies 10 0 (omega arith) p);
+        entries-written = λ p. absurd (refuse-applies 10 0 (omega arith) p);
+        counts-add-up = λ p. absurd (refuse-applies 10 0 (omega arith) p);
         in-one-group = λ c. groups-once u c rs;
         rest-unchanged = refl;
         none-written = λ _. (refl, refl);
         space-as-evaluated = λ _ k. absurd (omega arith);
-        space-as-checked = λ _. refl;
         space-untouched = λ _. refl;
       }
 
@@ -242,19 +227,19 @@ module _ (t s : List ℕ) (u : ℕ) (rs : List Row) (ws out : List ℕ) where
           as-evaluated = λ _ _. refl;
           output-short = λ _ p _. absurd (h p);
           answered = λ _ p _. absurd (h p);
+          size-is = λ p. absurd (h p);
           entries-written = λ p. absurd (h p);
           counts-add-up = λ p. absurd (h p);
           in-one-group = λ c. groups-once u c rs;
           rest-unchanged = refl;
           none-written = λ _. (refl, refl);
           space-as-evaluated = λ _ _. refl;
-          space-as-checked = λ k. absurd (k z);
-          space-untouched = λ k. absurd (omega arith);
+          space-untouched = λ k. absurd (k z l);
         }
 
     -- the output is too short
-    beside-short : Passes (e .refusal) → length out < length own
-        → TotalsBeside t s u rs ws out (totalsRefused (refuse 10 (length own)) (e .rowSpace) out) e
+    beside-short : Passes (e .refusal) → length out < length entries
+        → TotalsBeside t s u rs ws out (totalsRefused (refuse 10 (length entries)) (e .rowSpace) out) e
     beside-short p h =
         record {
           as-checked = λ k. absurd (k z);
@@ -262,19 +247,19 @@ module _ (t s : List ℕ) (u : ℕ) (rs : List Row) (ws out : List ℕ) where
           as-evaluated = λ _ k. absurd (k p);
           output-short = λ _ _ _. refl;
           answered = λ _ _ k. absurd (omega arith);
-          entries-written = λ k. absurd (let y : _≡_ {A = ℕ} 10 0 = k in omega arith);
-          counts-add-up = λ k. absurd (let y : _≡_ {A = ℕ} 10 0 = k in omega arith);
+          size-is = λ k. absurd (refuse-applies 10 0 (omega arith) k);
+          entries-written = λ k. absurd (refuse-applies 10 0 (omega arith) k);
+          counts-add-up = λ k. absurd (refuse-applies 10 0 (omega arith) k);
           in-one-group = λ c. groups-once u c rs;
           rest-unchanged = refl;
           none-written = λ _. (refl, refl);
           space-as-evaluated = λ _ _. refl;
-          space-as-checked = λ k. absurd (k z);
-          space-untouched = λ k. absurd (omega arith);
+          space-untouched = λ k. absurd (k z l);
         }
 
     -- the entries are written
-    beside-written : Passes (e .refusal) → e .rows ≡ length rs → length own ≤ length out
-        → TotalsBeside t s u rs ws out (totalsWritten own (e .rowSpace) out) e
+    beside-written : Passes (e .refusal) → e .rows ≡ length rs → length entries ≤ length out
+        → TotalsBeside t s u rs ws out (totalsWritten entries (e .rowSpace) out) e
     beside-written p rows h =
         record {
           as-checked = λ k. absurd (k z);
@@ -282,14 +267,14 @@ module _ (t s : List ℕ) (u : ℕ) (rs : List Row) (ws out : List ℕ) where
           as-evaluated = λ _ k. absurd (k p);
           output-short = λ _ _ k. absurd (omega arith);
           answered = λ _ _ _. refl;
-          entries-written = λ _. take-at own (drop (length own) out) (length own) refl;
-          counts-add-up = λ _. counts-entries u rs (drop (length own) out) ∙ sym rows;
+          size-is = λ _. refl;
+          entries-written = λ _. take-at entries (drop (length entries) out) (length entries) refl;
+          counts-add-up = λ _. counts-entries u rs (drop (length entries) out) ∙ sym rows;
           in-one-group = λ c. groups-once u c rs;
-          rest-unchanged = drop-at own (drop (length own) out) (length own) refl;
+          rest-unchanged = drop-at entries (drop (length entries) out) (length entries) refl;
           none-written = λ k. absurd (k refl);
           space-as-evaluated = λ _ _. refl;
-          space-as-checked = λ k. absurd (k z);
-          space-untouched = λ k. absurd (omega arith);
+          space-untouched = λ k. absurd (k z l);
         }
 
 -- what request 1 asks, of any aggregate and view: the totals beside an evaluation in a row space of the same length
@@ -297,7 +282,7 @@ pub totals-beside : (g : Aggregate) (v : View) (t s : List ℕ) (u : ℕ) (ws ws
     → TotalsBeside t s u (rowsOver g (factsIn v t) (queryNode s)) ws out (totalsOver g v t s u ws out) (evaluateOver g v t s ws′)
 totals-beside g v t s u ws ws′ out same =
     totals-cases g v t s u ws out (λ x. TotalsBeside t s u rs ws out x (evaluateOver g v t s ws′))
-    (λ h. rw (evaluate-refused g v t s ws′ h) (beside-checked t s u rs ws out ws′ h))
+    (λ h. rw (evaluate-refused g v t s ws′ h) (beside-check-refuses t s u rs ws out ws′ h))
     (λ z l. beside-variable t s u rs ws out (evaluateOver g v t s ws′) z l)
     (λ z l p. rw (sym (alike z)) (beside-refused t s u rs ws out (evaluateOver g v t s ws) z l p))
     (λ z l p h. rw (sym (alike z)) (beside-short t s u rs ws out (evaluateOver g v t s ws) z l p h))
@@ -345,9 +330,9 @@ pub totals-rewritten : (g : Aggregate) → SoundAggregate g → (v : View) (t s 
 totals-rewritten g sound v t s u ws ws′ out result accepted same =
     totals-cases g v t s u ws out (λ x. Passes (x .refusal) → totalsOver g v t (written s result) u ws′ out ≡ x)
     (λ h p. absurd (h p))
-    (λ z l p. absurd (let y : _≡_ {A = ℕ} 10 0 = p in omega arith))
+    (λ z l p. absurd (refuse-applies 10 0 (omega arith) p))
     (λ z l h p. absurd (h p))
-    (λ z l p h k. absurd (let y : _≡_ {A = ℕ} 10 0 = k in omega arith))
+    (λ z l p h k. absurd (refuse-applies 10 0 (omega arith) k))
     (λ z l p h k. answered z l p h)
   where
     w : List ℕ
@@ -386,11 +371,12 @@ totals-size-≤ u rs =
 pub record TotalsFit (words room : ℕ) (x : Totals) : Type 0 where
   pub number-fits : x .refusal .number ≤ 10
   pub place-fits : x .refusal .place ≤ 196605
-  pub size-fits : x .size ≤ 196605
+  pub size-fits : (x .size ≤ room) × (x .size ≤ 196605)
   pub space-kept : length (x .rowSpace) ≡ words
   pub output-kept : length (x .output) ≡ room
 
-pub totals-fit : (t s : List ℕ) (u : ℕ) (ws out : List ℕ) (a : Tally) → TotalsFit (length ws) (length out) (totalsCall t s u ws out a .totals)
+pub totals-fit : (t s : List ℕ) (u : ℕ) (ws out : List ℕ) (a : Tally)
+    → TotalsFit (length ws) (length out) (totalsCall t s u ws out a .totals)
 totals-fit t s u ws out a =
     totals-cases least v t s u ws out (TotalsFit (length ws) (length out))
     (λ h. none (check t s) ws refl (omega (arith, check-fits t s)) (omega (arith, check-fits t s)))
@@ -400,7 +386,7 @@ totals-fit t s u ws out a =
     (λ z l p h. record {
       number-fits = omega arith;
       place-fits = omega arith;
-      size-fits = most p;
+      size-fits = (h, most p);
       space-kept = long;
       output-kept = length-append es (drop (length es) out) ∙ rw (length-drop (length es) out) (omega arith);
     })
@@ -431,4 +417,4 @@ totals-fit t s u ws out a =
     none : (r : Refusal) (space : List ℕ) → length space ≡ length ws → r .number ≤ 10 → r .place ≤ 196605
         → TotalsFit (length ws) (length out) (totalsRefused r space out)
     none r space k n p =
-        record { number-fits = n; place-fits = p; size-fits = omega arith; space-kept = k; output-kept = refl }
+        record { number-fits = n; place-fits = p; size-fits = (omega arith, omega arith); space-kept = k; output-kept = refl }

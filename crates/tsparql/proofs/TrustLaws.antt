@@ -1,6 +1,6 @@
--- Bounds on trust: how a bound goes through the lesser of two trusts and through another bound. A known trust is at most 1000 (Sound)
--- in every row of a table that was checked; most laws ask it. Assumes nothing.
-use mathlib.Core.Path.{_≡_, refl, sym}
+-- The lesser of trusts; bounds on trust: how a bound goes through the lesser of two trusts and through another bound. A known trust is
+-- at most 1000 (Sound) in every row of a table that was checked; most laws ask it. Assumes nothing.
+use mathlib.Core.Path.{_≡_, refl, sym, ap}
 use mathlib.Core.Bool.{true, _&&_, and-false, and-self}
 use Prim.Native.Nat.{ℕ, _≤_, min, max}
 use native.Mathlib.Omega.{arith}
@@ -19,6 +19,21 @@ pub sound-lesser-right : (s t : Trust) → Sound t → Sound (lesser s t)
 sound-lesser-right (known a) (known b) k = omega arith
 sound-lesser-right (known a) unknown k = tt
 sound-lesser-right unknown t k = tt
+
+pub lesser-assoc : (a b c : Trust) → lesser a (lesser b c) ≡ lesser (lesser a b) c
+lesser-assoc (known a) (known b) (known c) = ap known (omega arith)
+lesser-assoc (known a) (known b) unknown = refl
+lesser-assoc (known a) unknown c = refl
+lesser-assoc unknown b c = refl
+
+-- the lesser of a trust and the greatest
+pub lesser-top : (t : Trust) → Sound t → lesser (known 2000) t ≡ t
+lesser-top (known a) h = ap known (omega arith)
+lesser-top unknown h = refl
+
+pub lesser-comm-top : (t : Trust) → lesser t (known 2000) ≡ lesser (known 2000) t
+lesser-comm-top (known a) = ap known (omega arith)
+lesser-comm-top unknown = refl
 
 -- ---- inside, as an order
 

@@ -1,5 +1,5 @@
 -- The calls evaluate and ceiling as a caller sees them, and the tally (document 01, "Ceiling and tally").
--- The calls check and rewrite stand in Check and Rewrite, runs of calls in Runs. Assumes nothing.
+-- The calls check, rewrite and totals stand in Check, Rewrite and Totals, runs of calls in Runs. Assumes nothing.
 use mathlib.Core.Bool.{Bool, true, false, cond}
 use mathlib.Core.List.{List}
 use Prim.Native.Nat.{ℕ, _+_, min}

@@ -68,7 +68,7 @@ countsIn (suc n) ws = getD ws 1 0 + countsIn n (drop groupLength ws)
 
 -- ---- the call
 
--- the words written; and what the row space and the output hold at the end
+-- how many words are written; and what the row space and the output hold at the end
 pub record Totals : Type 0 where
   pub refusal : Refusal
   pub size : ℕ
@@ -83,16 +83,19 @@ variableRefusal u = refuseIf (ltb 15 u) 10 0
 abbrev pub outputRefusal : List ℕ → List ℕ → Refusal
 outputRefusal es out = refuseIf (ltb (length out) (length es)) 10 (length es)
 
--- the entries at the front of the output, where neither the evaluation nor the output is refused; the row space as the evaluation left it
+-- a refusal: nothing is written
+abbrev pub totalsRefused : Refusal → List ℕ → List ℕ → Totals
+totalsRefused r ws out = record { refusal = r; size = 0; rowSpace = ws; output = out }
+
+-- the entries at the front of the output, the rest of it unchanged
+abbrev pub totalsWritten : List ℕ → List ℕ → List ℕ → Totals
+totalsWritten es ws out = record { refusal = noRefusal; size = length es; rowSpace = ws; output = es ++ drop (length es) out }
+
+-- after an evaluation: refused where it is, or else where the output is too short; the row space as the evaluation left it
 abbrev pub totalsAfter : Evaluated → List ℕ → List ℕ → Totals
 totalsAfter e es out =
     let r = orElse (e .refusal) (outputRefusal es out) in
-    record {
-      refusal = r;
-      size = cond (passes r) (length es) 0;
-      rowSpace = e .rowSpace;
-      output = cond (passes r) (es ++ drop (length es) out) out;
-    }
+    cond (passes r) (totalsWritten es (e .rowSpace) out) (totalsRefused r (e .rowSpace) out)
 
 -- without a tally
 unfoldable pub totalsOver : Aggregate → View → List ℕ → List ℕ → ℕ → List ℕ → List ℕ → Totals
@@ -125,16 +128,17 @@ pub record TotalsBeside (t s : List ℕ) (u : ℕ) (rs : List Row) (ws out : Lis
   pub output-short : u ≤ 15 → Passes (e .refusal) → length out < length (totalsWords u rs)
       → x .refusal ≡ refuse 10 (length (totalsWords u rs))
   pub answered : u ≤ 15 → Passes (e .refusal) → length (totalsWords u rs) ≤ length out → x .refusal ≡ noRefusal
-  -- 2. an answer has the entries at the front of the output, and their counts add up to the evaluation's rows
+  -- 2. an answer tells the length of the entries, which stand at the front of the output, and the sum of their counts is how many rows
+  -- the evaluation has
+  pub size-is : Passes (x .refusal) → x .size ≡ length (totalsWords u rs)
   pub entries-written : Passes (x .refusal) → take (x .size) (x .output) ≡ totalsWords u rs
   pub counts-add-up : Passes (x .refusal) → countsIn (x .size / groupLength) (x .output) ≡ e .rows
-  -- 3. a cell that a row has is in exactly one group, and no other cell is in any
+  -- 3. of the groups whose entries these are, one has a cell that some row has, and none has any other
   pub in-one-group : (c : Cell) → length (keepIf (λ y. sameCell c (y .cell)) (groups u rs)) ≡ min 1 (length (rowsWith u c rs))
-  -- 4. behind the entries the output is unchanged, and on a refusal all of it
+  -- 4. what the output held is still there behind the entries, and on a refusal everywhere
   pub rest-unchanged : drop (x .size) (x .output) ≡ drop (x .size) out
   pub none-written : (Passes (x .refusal) → ⊥) → (x .size ≡ 0) × (x .output ≡ out)
-  -- 5. the row space ends as after the evaluation, also where the output is too short; but untouched on the check's refusals and on
-  -- the variable's
+  -- 5. where the check passes and the variable is one of the 16 the row space is that of the evaluation, whatever the output; else it is
+  -- untouched
   pub space-as-evaluated : Passes (check t s) → u ≤ 15 → x .rowSpace ≡ e .rowSpace
-  pub space-as-checked : (Passes (check t s) → ⊥) → x .rowSpace ≡ ws
-  pub space-untouched : 15 < u → x .rowSpace ≡ ws
+  pub space-untouched : (Passes (check t s) → u ≤ 15 → ⊥) → x .rowSpace ≡ ws

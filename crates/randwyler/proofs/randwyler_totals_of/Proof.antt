@@ -6,7 +6,7 @@ use Rattle.patterns.specs.Matching.{viewOf}
 use Rattle.randwyler.specs.declared.CheckAnswer.the-variants.{Sound}
 use Rattle.randwyler.specs.Answers.{tallyIn, Ready}
 use Rattle.randwyler.proofs.Checks.{checked-ready}
-use Rattle.randwyler.proofs.TotalsAnswers.{call-checked, call-variable, call-answered}
+use Rattle.randwyler.proofs.TotalsAnswers.{call-check-refuses, call-variable, call-answered}
 use borrow.Author.Needs.{needs}
 use Rattle.randwyler.proofs.randwyler_totals_of.Statement.{statement}
 use Rattle.randwyler.proofs.randwyler_totals_of.Tie as tie
@@ -50,7 +50,7 @@ returns-2 c =
     let x = c .before .before .before .before in
     let a = start-of x .args in
     c .totals-refused .ensures (a .space .now) (a .output .now)
-    ∙ call-checked (a .table .now) (a .query .now) (a .variable) (a .space .now) (a .output .now) (tallyIn (a .tally))
+    ∙ call-check-refuses (a .table .now) (a .query .now) (a .variable) (a .space .now) (a .output .now) (tallyIn (a .tally))
     (rw (c .before .before .c .given .1) at (x .check-both .ensures))
 
 same-length : tie.Need-same-length

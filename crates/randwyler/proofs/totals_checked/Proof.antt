@@ -6,19 +6,16 @@ use native.Mathlib.Omega.{arith}
 use lib.ListN.{length}
 use Rattle.tsparql.specs.Lists.{Every}
 use Rattle.tsparql.specs.Table.{Fact, factsIn}
-use Rattle.tsparql.specs.Query.{Node}
 use Rattle.tsparql.specs.PatternSets.{least, rowsOver}
 use Rattle.tsparql.specs.Reading.{queryNode}
 use Rattle.query.specs.Found.{nodeOf}
 use Rattle.rows.specs.RowWords.{RowFormed}
 use Rattle.patterns.specs.Matching.{viewOf}
-use Rattle.patterns.proofs.RecordLaws.{facts-formed}
-use Rattle.evaluation.proofs.ReadyLaws.{rows-formed}
 use Rattle.evaluation.specs.declared.QueryRows.{QueryRows}
 use Rattle.evaluation.specs.Evaluations.{Answers}
 use Rattle.randwyler.specs.Answers.{tallyIn}
 use Rattle.randwyler.proofs.Evaluations.{ready-seen, ready-node}
-use Rattle.randwyler.proofs.AnsweredRows.{answered-held, answered-few}
+use Rattle.randwyler.proofs.AnsweredRows.{ready-answers, ready-formed, answered-held, answered-few}
 use Rattle.randwyler.proofs.TotalsAnswers.{totals-refused, totals-short, totals-written}
 use borrow.Author.Needs.{needs}
 use Rattle.randwyler.proofs.totals_checked.Statement.{statement}
@@ -39,18 +36,14 @@ answers-at : (c : tie.After-answer) {r : QueryRows} → c .answer .result ≡ r
     Answers (facts-of c) (queryNode (a .query .now)) (length (a .space .now)) (out-at c) r
 answers-at c {r} e =
     let a = start-of c .args in
-    let is = ready-node (viewOf (a .view)) (a .table .now) (a .query .now) (start-of c .pre .0) .1 in
-    let words = length (a .space .now) in
-    subst (λ (x : Node). Answers (facts-of c) x words (out-at c) r) is
-    (subst (λ (q : QueryRows). Answers (facts-of c) (nodeOf (a .query .now)) words (out-at c) q) e (c .answer .ensures))
+    ready-answers (viewOf (a .view)) (a .table .now) (a .query .now) (start-of c .pre .0)
+    (subst (λ (q : QueryRows). Answers (facts-of c) (nodeOf (a .query .now)) (length (a .space .now)) (out-at c) q) e (c .answer .ensures))
 
 formed-at : (c : tie.After-answer) → Every RowFormed (rowsOver least (facts-of c) (queryNode (start-of c .args .query .now)))
 formed-at c =
     let a = start-of c .args in
     let bytes = c .before .before .before .before .before .shared-slice-known .given in
-    rows-formed (facts-of c)
-    (facts-formed (viewOf (a .view)) (a .table .now)
-    (ready-seen (viewOf (a .view)) (a .table .now) (a .query .now) (start-of c .pre .0)) (λ i. bytes i .fits)) _
+    ready-formed (viewOf (a .view)) (a .table .now) (a .query .now) (start-of c .pre .0) (λ i. bytes i .fits)
 
 answer-requires : tie.Need-answer-requires
 answer-requires c κs =

@@ -6,12 +6,12 @@ use lib.ListN.{length, length-replicate}
 use borrow.Author.Needs.{needs}
 use Rattle.totals.specs.Chains.{bucketCount}
 use Rattle.totals.proofs.ChainLaws.{chained-none}
-use Rattle.totals.proofs.NumberLaws.{Run, run-none, run-more, run-all}
+use Rattle.totals.proofs.NumberLaws.{NumberedTo, numbered-none, numbered-more, numbered-all}
 use Rattle.totals.proofs.number_rows.Statement.{statement}
 use Rattle.totals.proofs.number_rows.Tie as tie
 
 abbrev Inv-loop : tie.InvT-loop
-Inv-loop space n u numbers₀ heads₀ links₀ i₀ k₀ numbers heads links i k = Run u n space numbers₀ i k numbers heads links
+Inv-loop space n u numbers₀ heads₀ links₀ i₀ k₀ numbers heads links i k = NumberedTo u n space numbers₀ i k numbers heads links
 
 abbrev μ-loop : tie.MeasureT-loop
 μ-loop space n u numbers₀ heads₀ links₀ i₀ k₀ numbers heads links i k = n - i
@@ -19,7 +19,7 @@ abbrev μ-loop : tie.MeasureT-loop
 loop-holds : tie.Need-loop-holds Inv-loop μ-loop
 loop-holds c =
     let pre = c .before .before .before .before .pre in
-    run-none _ _ _ _ _ _ (rw (pre .4) (chained-none _ _ _ (pre .5)))
+    numbered-none _ _ _ _ _ _ (rw (pre .4) (chained-none _ _ _ (pre .5)))
 
 chain-row-requires : tie.Need-chain-row-requires Inv-loop μ-loop
 chain-row-requires c κs =
@@ -56,7 +56,7 @@ loop-again c =
     let head = c .before .before .before .before .before .before .before .before .before .before .before in
     let pre = head .before .before .before .before .before .pre in
     let chained = c .before .before .before .before .before .before .before .chain-row .ensures in
-    run-more (pre .0) (pre .1) (omega arith) (omega arith) (head .loop .inv) _ _ _ _ _ (chained .0) (chained .1)
+    numbered-more (pre .0) (pre .1) (omega arith) (omega arith) (head .loop .inv) _ _ _ _ _ (chained .0) (chained .1)
     (c .before .number-of .ensures) (c .in-use .ensures)
 
 same-length : tie.Need-same-length Inv-loop μ-loop
@@ -71,7 +71,7 @@ same-length-3 : tie.Need-same-length-3 Inv-loop μ-loop
 same-length-3 c = c .before .loop .inv .chains .room ∙ sym (c .before .before .before .before .before .before .pre .5)
 
 returns : tie.Need-returns Inv-loop μ-loop
-returns c = run-all (c .before .loop .inv) (omega arith)
+returns c = numbered-all (c .before .loop .inv) (omega arith)
 
 pub number-rows-spec : {M : Type 1} → statement M
 number-rows-spec =
