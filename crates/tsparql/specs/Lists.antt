@@ -1,6 +1,7 @@
 -- Functions on lists that the definitions are made of: choosing elements by a test, lists one after the other, what holds of every
 -- element, each element once, sums, rising numbers.
--- Their laws are in proofs/ListLaws.antt. Length, take, drop, set and the like are the library's (lib.ListN).
+-- Their laws are in proofs/ListLaws.antt, those of distinct elements and sums in SumLaws. Length, take, drop, set and the like are the
+-- library's (lib.ListN).
 -- Assumes nothing.
 use mathlib.Core.Bool.{Bool, true, false, _&&_, _||_, not}
 use mathlib.Core.List.{List, [], _∷_, _++_}
