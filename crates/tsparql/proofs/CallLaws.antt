@@ -1,5 +1,5 @@
 -- The calls: every number of an answer fits its type; lent memory keeps its length; an answered evaluation has at most the ceiling's
--- rows. Rewriting is in RewriteLaws, demand 3 in Demand3, the tally in TallyLaws. Assumes nothing.
+-- rows; two tables over which a query has one ceiling. Rewriting is in RewriteLaws, demand 3 in Demand3, the tally in TallyLaws. Assumes nothing.
 use mathlib.Core.Path.{_≡_, refl}
 use mathlib.Core.Bool.{Bool, true, false}
 use mathlib.Core.List.{List}
@@ -8,6 +8,7 @@ use native.Mathlib.Nat.{mul-le-mul-right, min-le-right}
 use native.Mathlib.Omega.{arith}
 use borrow.Author.Tests.{eqb-true, eqb-false, eq-eqb, ne-eqb}
 use lib.ListN.{length}
+use Rattle.tsparql.specs.Query.{EverySet}
 use Rattle.tsparql.specs.Table.{View, wholeTable, factsIn}
 use Rattle.tsparql.specs.PatternSets.{Aggregate, least, setRows}
 use Rattle.tsparql.specs.Ceiling.{greatest32, product, productFigure, ceilingOf}
@@ -15,9 +16,10 @@ use Rattle.tsparql.specs.Reading.{queryNode}
 use Rattle.tsparql.specs.Check.{Refusal, Passes, passes, tableRefusal, queryRefusal, evaluateLimit, check}
 use Rattle.tsparql.specs.Evaluate.{Evaluated, evaluateOver}
 use Rattle.tsparql.specs.Calls.{Tally, evaluate, ceilingAnswered, ceilingRefused, ceilingOver, ceilingCall}
+use Rattle.tsparql.proofs.NodeSets.{ceilingOf-cong}
 use Rattle.tsparql.proofs.RefusalLaws.{orElse-cases}
 use Rattle.tsparql.proofs.TableLaws.{tableRefusal-cases}
-use Rattle.tsparql.proofs.QueryLaws.{query-checked, check-parts, queryRefusal-cases}
+use Rattle.tsparql.proofs.QueryLaws.{query-checked, check-parts, check-alike, queryRefusal-cases}
 use Rattle.tsparql.proofs.CeilingLaws.{ceiling-fits}
 use Rattle.tsparql.specs.Writing.{nodeSize}
 use Rattle.tsparql.proofs.SpaceLaws.{pairs-≤}
@@ -98,6 +100,13 @@ module _ (v : View) (t s : List ℕ) where
       go false e =
           let fits = check-fits t s in
           rw (ceiling-refused (eqb-false (check t s .number) 0 e)) (fits .0, fits .1, zero-le)
+
+-- over two tables that pass the check, where every pattern set of a query has the same figure, its ceiling is the same
+pub ceiling-alike : (v w : View) (t u s : List ℕ) → Passes (tableRefusal t) → Passes (tableRefusal u)
+    → EverySet (λ ps. productFigure (factsIn v t) ps ≡ productFigure (factsIn w u) ps) (queryNode s) → ceilingOver v t s ≡ ceilingOver w u s
+unfolding ceilingOver
+ceiling-alike v w t u s h k e =
+    rw (check-alike t u s h k, ceilingOf-cong (productFigure (factsIn v t)) (productFigure (factsIn w u)) (queryNode s) e)
 
 -- an answered evaluation has at most the ceiling's rows
 pub rows-≤-ceilingCall : (a : Tally) (t s ws : List ℕ) → Passes (evaluate a t s ws .evaluated .refusal)

@@ -4,6 +4,7 @@ pub mod ListLaws
 pub mod SumLaws
 pub mod TrustLaws
 pub mod RowLaws
+pub mod NodeSets
 -- What push does to rows, space and pairs
 pub mod PushRows
 -- Query bytes: sizes, readers, reading what was written, writing what was read; what push does to them

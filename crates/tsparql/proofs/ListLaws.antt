@@ -308,12 +308,14 @@ module _ {A B : Type 0} where
   keepIf-concatMap p f (x ∷ xs) =
       keepIf-append p (f x) (concatMap f xs) ∙ ap (λ (r : List B). keepIf p (f x) ++ r) (keepIf-concatMap p f xs)
 
-  -- two functions that agree everywhere
-  pub concatMap-same : (f g : A → List B) (xs : List A) → ((x : A) → f x ≡ g x) → concatMap f xs ≡ concatMap g xs
-  concatMap-same f g [] e = refl
-  concatMap-same f g (x ∷ xs) e = rw (e x, concatMap-same f g xs e)
+  -- two functions that agree on every element, or everywhere
+  pub concatMap-cong : (f g : A → List B) (xs : List A) → Every (λ x. f x ≡ g x) xs → concatMap f xs ≡ concatMap g xs
+  concatMap-cong f g [] e = refl
+  concatMap-cong f g (x ∷ xs) e = rw (e .0, concatMap-cong f g xs (e .1))
 
-  -- two functions that agree on every element
+  pub concatMap-same : (f g : A → List B) (xs : List A) → ((x : A) → f x ≡ g x) → concatMap f xs ≡ concatMap g xs
+  concatMap-same f g xs e = concatMap-cong f g xs (every-of e xs)
+
   pub map-cong : (f g : A → B) (xs : List A) → Every (λ x. f x ≡ g x) xs → map f xs ≡ map g xs
   map-cong f g [] e = refl
   map-cong f g (x ∷ xs) e = rw (e .0, map-cong f g xs (e .1))

@@ -21,7 +21,7 @@ use Rattle.tsparql.specs.Check.{patternVariables, clashing, clashes, fir
 use Rattle.tsparql.specs.Check.{tableRefusal, queryRefusal, evaluateLimit, check}
 use Rattle.tsparql.specs.Rewrite.{rewriteLimit, rewriting}
 use Rattle.tsparql.proofs.ListLaws.{every-append, every-keepIf, keepIf-map}
-use Rattle.tsparql.proofs.RefusalLaws.{orElse-passes, refuseIf-passes}
+use Rattle.tsparql.proofs.RefusalLaws.{orElse-second, orElse-passes, refuseIf-passes}
 use Rattle.tsparql.proofs.QuerySize.{nodeSize-positive, nodeSize-join, nodeSize-leftJoin}
 use Rattle.tsparql.proofs.QuerySize.{nodeSize-union, nodeSize-filter, nodeSize-projectTrust, nodeSize-ensureTrust}
 use Rattle.tsparql.specs.WellFormed.{Bytes, NodeFormed}
@@ -97,6 +97,12 @@ query-checked limit s z =
 pub check-parts : (t s : List ℕ) → Passes (check t s) → Passes (tableRefusal t) × Passes (queryRefusal evaluateLimit s)
 unfolding check
 check-parts t s z = orElse-passes (tableRefusal t) (queryRefusal evaluateLimit s) z
+
+-- beside two tables that pass by themselves a query is checked alike
+pub check-alike : (t u s : List ℕ) → Passes (tableRefusal t) → Passes (tableRefusal u) → check t s ≡ check u s
+unfolding check
+check-alike t u s h k =
+    let r = queryRefusal evaluateLimit s in orElse-second (tableRefusal t) r h ∙ sym (orElse-second (tableRefusal u) r k)
 
 -- ---- the refusals of a query: 5 at 0, 6 at a place of the query or at its end, 7 at a node of the query
 

@@ -33,3 +33,13 @@ pub data Node : Type 0 where
   filter : Condition → Node → Node
   projectTrust : ℕ → Node → Node
   ensureTrust : ℕ → ℕ → Node → Node
+
+-- P holds of every pattern set of the node
+abbrev pub EverySet : (List Pattern → Type 0) → Node → Type 0
+EverySet P (patternSet ps) = P ps
+EverySet P (join x y) = EverySet P x × EverySet P y
+EverySet P (leftJoin c x y) = EverySet P x × EverySet P y
+EverySet P (union x y) = EverySet P x × EverySet P y
+EverySet P (filter c x) = EverySet P x
+EverySet P (projectTrust v x) = EverySet P x
+EverySet P (ensureTrust l u x) = EverySet P x
