@@ -4,4 +4,5 @@ pub mod Evaluations
 pub mod AnsweredRows
 pub mod TotalsAnswers
 pub mod Demand3
+pub mod Replaced
 pub mod Requests

@@ -1,23 +1,31 @@
 -- What the requests of document 02 ask, on the calls: whatever they answer, by their promises alone. Request 1: totals beside an
--- evaluation (`totals-calls`), their tally (`totals-tally-calls`), and of a rewriting (`totals-rewritten-calls`). Assumes nothing.
+-- evaluation (`totals-calls`), their tally (`totals-tally-calls`), and of a rewriting (`totals-rewritten-calls`). Request 2: a query that
+-- names its subjects, over tables with other records behind these (`replaced-calls`, `replaced-ceiling-calls`). Assumes nothing.
 use mathlib.Core.Path.{_≡_, sym, ap, subst, _∙_}
 use mathlib.Core.Bool.{true, false}
-use mathlib.Core.List.{List}
-use Prim.Native.Nat.{ℕ}
+use mathlib.Core.List.{List, _++_}
+use Prim.Native.Nat.{ℕ, suc, _*_, _≤_}
 use lib.ListN.{length, take}
-use Rattle.tsparql.specs.Table.{wholeTable, factsIn}
+use Rattle.tsparql.specs.Query.{EverySet}
+use Rattle.tsparql.specs.Table.{wholeTable, recordLength, recordAt, factOf, factsIn}
 use Rattle.tsparql.specs.PatternSets.{least, rowsOver}
 use Rattle.tsparql.specs.Reading.{queryNode}
 use Rattle.tsparql.specs.Rewrite.{rewrite, Accepted, written}
-use Rattle.tsparql.specs.Calls.{raiseOne, evaluate}
+use Rattle.tsparql.specs.Check.{Passes, tableRefusal}
+use Rattle.tsparql.specs.Calls.{raiseOne, tallied, evaluate, ceilingCall}
 use Rattle.tsparql.specs.Totals.{totalsUntallied, totalsCall, TotalsBeside}
 use Rattle.tsparql.proofs.ChoiceLaws.{least-sound}
 use Rattle.tsparql.proofs.TotalsLaws.{totals-evaluate, totals-tally, totals-rewritten}
+use Rattle.patterns.specs.Scan.{NamedBelow}
 use Rattle.randwyler.specs.declared.Rewritten.{Rewritten}
 use Rattle.randwyler.specs.declared.Evaluated.{Evaluated}
+use Rattle.randwyler.specs.declared.Ceiling.{Ceiling}
 use Rattle.randwyler.specs.declared.Tally.{Tally}
 use Rattle.randwyler.specs.declared.Totalled.{Totalled}
-use Rattle.randwyler.specs.Answers.{rewrittenIn, tallyIn, evaluatedIn, totalsIn}
+use Rattle.randwyler.specs.Answers.{rewrittenIn, tallyIn, evaluatedIn, ceilingIn, totalsIn}
+use Rattle.randwyler.proofs.Replaced.{evaluate-replaced, ceiling-replaced}
+
+-- ---- request 1
 
 -- totals of a query s over a table t by variable u, and an evaluation of it, in row spaces of one length with any contents, with any
 -- tallies
@@ -59,3 +67,22 @@ totals-rewritten-calls t s result result′ r rewritten zero u first first′ se
     ∙ ap (λ w. totalsUntallied t w u second out) is
     ∙ totals-rewritten least least-sound (wholeTable t) t s u first second out result accepted same passes
     ∙ ap (λ w. w .totals) (sym query)
+
+-- ---- request 2
+
+-- two accepted tables begin with u, and go on in any way; every pattern of the query s names a lesser subject than record g of u has
+module _ (u rest other s : List ℕ) (g : ℕ) (long : recordLength * suc g ≤ length u) (accepted : Passes (tableRefusal (u ++ rest)))
+    (other-accepted : Passes (tableRefusal (u ++ other))) (named : EverySet (NamedBelow (factOf (recordAt u g) .subject)) (queryNode s)) where
+  -- evaluations in row spaces with the same words, and with equal tallies, answer the same and leave the same words
+  pub replaced-calls : (space first second : List ℕ) (a : Tally) (x y : Evaluated)
+      → evaluatedIn x first ≡ evaluate (tallyIn a) (u ++ rest) s space
+      → evaluatedIn y second ≡ evaluate (tallyIn a) (u ++ other) s space → evaluatedIn x first ≡ evaluatedIn y second
+  replaced-calls space first second a x y one two =
+      one
+      ∙ ap (λ e. record { evaluated = e; tally = tallied (tallyIn a) (e .refusal) })
+      (evaluate-replaced u rest other s g long accepted other-accepted named space)
+      ∙ sym two
+
+  pub replaced-ceiling-calls : (x y : Ceiling) → ceilingIn x ≡ ceilingCall (u ++ rest) s → ceilingIn y ≡ ceilingCall (u ++ other) s
+      → ceilingIn x ≡ ceilingIn y
+  replaced-ceiling-calls x y one two = one ∙ ceiling-replaced u rest other s g long accepted other-accepted named ∙ sym two
