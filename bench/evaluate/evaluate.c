@@ -18,23 +18,18 @@
 #include "sqlite.h"
 #include "store.h"
 
-enum { MOST_REWRITTEN = 5 * MOST_QUERY, LOADS = 3, LEAST_ROUNDS = 3, MOST_ROUNDS = 200, MOST_CALLS = 1000 };
+enum { LOADS = 3, LEAST_ROUNDS = 3, MOST_ROUNDS = 200, MOST_CALLS = 1000 };
 
 /* A question has this time for all its rounds, and a contender at least this time in each, in nanoseconds. */
 static const double QUESTION_TIME = 2e9, ROUND_TIME = 2e6;
 
 enum contender { OURS, PLAIN, KEYED, INDEXED, CONTENDERS };
 
-/* The query of each question. */
-static struct {
-    size_t length;
-    uint8_t bytes[MOST_REWRITTEN];
-} queries[MOST_QUESTIONS];
-
-/* A table, the contenders' row spaces of `words` words, and the table in SQLite. */
+/* A table, the questions' queries on it, the contenders' row spaces of `words` words, and the table in SQLite. */
 struct bench {
     uint8_t *table;
     size_t records, words;
+    struct query queries[MOST_QUESTIONS];
     uint32_t *space[CONTENDERS];
     struct sqlite *db[CONTENDERS];
     double load[CONTENDERS];
@@ -64,6 +59,7 @@ static struct bench bench_open(size_t records, uint64_t seed, int loads)
 {
     struct bench b = {.table = allocate(RECORD_BYTES * records), .records = records, .words = ROW_WORDS * records};
     store_fill(b.table, records, seed);
+    for (size_t i = 0; i < question_count; i++) b.queries[i] = question_query(&questions[i], b.table, records);
     for (int c = 0; c < CONTENDERS; c++) b.space[c] = allocate(b.words * sizeof *b.space[c]);
     load(&b, KEYED, loads);
     load(&b, INDEXED, loads);
@@ -81,24 +77,13 @@ static void bench_close(struct bench *b)
 
 /* ---- answers */
 
-static void make_queries(void)
-{
-    for (size_t i = 0; i < question_count; i++) {
-        const struct question *q = &questions[i];
-        queries[i].length = q->length;
-        memcpy(queries[i].bytes, q->query, q->length);
-        /* A refused rewriting leaves no bytes, and no bytes are no query: the answers then differ. */
-        if (q->rewritten) queries[i].length = (size_t)randwyler_rewrite(q->query, q->length, queries[i].bytes, MOST_REWRITTEN).length;
-    }
-}
-
 static struct randwyler_evaluated evaluate(struct bench *b, enum contender c, size_t question)
 {
     const struct randwyler_tally none = {0, 0};
-    const uint8_t *query = queries[question].bytes;
-    size_t length = queries[question].length, bytes = RECORD_BYTES * b->records;
-    if (c == OURS) return randwyler_evaluate(b->table, bytes, query, length, b->space[c], b->words, none);
-    return plain_evaluate(b->table, bytes, query, length, b->space[c], b->words, none);
+    const struct query *q = &b->queries[question];
+    size_t bytes = RECORD_BYTES * b->records;
+    if (c == OURS) return randwyler_evaluate(b->table, bytes, q->bytes, q->length, b->space[c], b->words, none);
+    return plain_evaluate(b->table, bytes, q->bytes, q->length, b->space[c], b->words, none);
 }
 
 static bool there(const struct bench *b, enum contender c)
@@ -231,7 +216,7 @@ static int compare_all(void)
 
 static int once(size_t question, size_t records)
 {
-    if (question >= question_count || records > MOST_RECORDS) return 2;
+    if (question >= question_count || records == 0 || records > MOST_RECORDS) return 2;
     struct bench b = bench_open(records, 1, 1);
     struct randwyler_evaluated ours = evaluate(&b, OURS, question);
     printf("%s: rows %u peak %u pairs %llu\n", questions[question].name, ours.rows, ours.peak, (unsigned long long)ours.pairs);
@@ -241,7 +226,6 @@ static int once(size_t question, size_t records)
 
 int main(int count, char **arguments)
 {
-    make_queries();
     if (count == 2 && strcmp(arguments[1], "time") == 0) return time_all();
     if (count == 2 && strcmp(arguments[1], "compare") == 0) return compare_all();
     if (count == 4 && strcmp(arguments[1], "once") == 0) {

@@ -1,8 +1,15 @@
 #include "questions.h"
 
-#include "bytes.h"
-#include "store.h"
+#include <string.h>
 
+#include "bytes.h"
+#include "randwyler.h"
+
+/* The records of a strike. Its term is 0, which is none, until question_query puts the table's there. */
+#define RECORDS_OF(which) \
+    QUERY(SET(1), TERM(0), VARIABLE(0), VARIABLE(1)), .strike = which, .columns = 2, .variables = {0, 1}, \
+    .sql = "SELECT p, o, trust FROM facts WHERE s = :strike"
+enum { STRIKE_AT = 1, TERM_BYTES = 3 };
 /* ?0 has the grade. */
 #define GRADED SET(1), VARIABLE(0), TERM(GRADE), TERM(ONE_GRADE)
 /* The pan ?1 and the crew ?2 of a strike: two patterns, and a set for each. */
@@ -19,8 +26,9 @@
     " SELECT a.s, a.pan, a.crew, b.s, min(a.t, b.t) FROM boiled a JOIN boiled b ON b.pan = a.pan AND b.crew = a.crew"
 
 const struct question questions[] = {
-    {"one strike's records", QUERY(SET(1), TERM(ONE_STRIKE), VARIABLE(0), VARIABLE(1)), .columns = 2, .variables = {0, 1},
-     .sql = "SELECT p, o, trust FROM facts WHERE s = :strike"},
+    {"first strike's records", RECORDS_OF(FIRST_STRIKE)},
+    {"middle strike's records", RECORDS_OF(MIDDLE_STRIKE)},
+    {"last strike's records", RECORDS_OF(LAST_STRIKE)},
 
     {"samples, join", QUERY(FROM_500, JOIN, GRADED, SAMPLES), .columns = 2, .variables = {0, 1},
      .sql = "SELECT g.s, m.o, min(g.trust, m.trust) AS t FROM facts g JOIN facts m ON m.s = g.s"
@@ -56,3 +64,17 @@ const struct question questions[] = {
 };
 const size_t question_count = sizeof questions / sizeof questions[0];
 _Static_assert(sizeof questions / sizeof questions[0] <= MOST_QUESTIONS, "room for every question");
+
+struct query question_query(const struct question *q, const uint8_t *table, size_t records)
+{
+    struct query asked = {.length = q->length}, rewritten;
+    memcpy(asked.bytes, q->query, q->length);
+    if (q->strike != NO_STRIKE) {
+        uint32_t term = store_strike(table, records, q->strike);
+        for (int i = 0; i < TERM_BYTES; i++) asked.bytes[STRIKE_AT + i] = (uint8_t)(term >> 8 * (TERM_BYTES - 1 - i));
+    }
+    if (!q->rewritten) return asked;
+    /* A refused rewriting leaves no bytes, and no bytes are no query: the answers then differ. */
+    rewritten.length = (size_t)randwyler_rewrite(asked.bytes, asked.length, rewritten.bytes, MOST_REWRITTEN).length;
+    return rewritten;
+}

@@ -11,17 +11,18 @@
 
 /* The last question asked stays prepared. */
 struct sqlite {
+    const uint8_t *table;
+    size_t records;
     sqlite3 *db;
     const struct question *asked;
     sqlite3_stmt *statement;
 };
 
-/* What the questions' parameters stand for. */
+/* What the questions' parameters stand for; :strike depends on the question and the table. */
 static const struct {
     const char *name;
     int value;
-} parameters[] = {{":sample", SAMPLE}, {":grade", GRADE},      {":pan", PAN},
-                  {":crew", CREW},     {":graded", ONE_GRADE}, {":strike", ONE_STRIKE}};
+} parameters[] = {{":sample", SAMPLE}, {":grade", GRADE}, {":pan", PAN}, {":crew", CREW}, {":graded", ONE_GRADE}};
 
 static void require(sqlite3 *db, bool good)
 {
@@ -63,6 +64,8 @@ struct sqlite *sqlite_open(const uint8_t *table, size_t records, bool indexed)
 {
     struct sqlite *lite = calloc(1, sizeof *lite);
     if (lite == NULL) abort();
+    lite->table = table;
+    lite->records = records;
     int opened = sqlite3_open(":memory:", &lite->db);
     require(lite->db, opened == SQLITE_OK);
     run(lite->db, "CREATE TABLE facts(s INTEGER NOT NULL, p INTEGER NOT NULL, o INTEGER NOT NULL, trust INTEGER,"
@@ -91,14 +94,19 @@ static void fetch(sqlite3_stmt *s, const struct question *q, uint32_t *row)
     row[TRUST_WORD] = sqlite3_column_type(s, trust) == SQLITE_NULL ? UNKNOWN : (uint32_t)(sqlite3_column_int(s, trust) + 1000);
 }
 
+/* Gives a parameter its value, where the statement has it. */
+static void bind(sqlite3_stmt *s, const char *name, int value)
+{
+    int at = sqlite3_bind_parameter_index(s, name);
+    if (at != 0) sqlite3_bind_int(s, at, value);
+}
+
 static void prepare_question(struct sqlite *lite, const struct question *q)
 {
     sqlite3_finalize(lite->statement);
     sqlite3_stmt *s = prepare(lite->db, q->sql);
-    for (size_t i = 0; i < sizeof parameters / sizeof parameters[0]; i++) {
-        int at = sqlite3_bind_parameter_index(s, parameters[i].name);
-        if (at != 0) sqlite3_bind_int(s, at, parameters[i].value);
-    }
+    for (size_t i = 0; i < sizeof parameters / sizeof parameters[0]; i++) bind(s, parameters[i].name, parameters[i].value);
+    if (q->strike != NO_STRIKE) bind(s, ":strike", (int)store_strike(lite->table, lite->records, q->strike));
     lite->statement = s;
     lite->asked = q;
 }

@@ -6,7 +6,8 @@
 
 struct sqlite;
 
-/* Loads a checked table, and makes an index by p, o, s if asked to. NULL where SQLite is not compiled in. */
+/* Loads a checked table, which has to stay until the end, and makes an index by p, o, s if asked to. NULL where SQLite is not
+ * compiled in. */
 struct sqlite *sqlite_open(const uint8_t *table, size_t records, bool indexed);
 void sqlite_close(struct sqlite *db);
 

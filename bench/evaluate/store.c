@@ -38,3 +38,9 @@ void store_fill(uint8_t *table, size_t records, uint64_t seed)
         add(&s, strike, CREW, FIRST_CREW + random_below(&s.state, CREWS));
     }
 }
+
+uint32_t store_strike(const uint8_t *table, size_t records, enum strike which)
+{
+    size_t record = which == FIRST_STRIKE ? 0 : which == MIDDLE_STRIKE ? records / 2 : records - 1;
+    return (uint32_t)(record_key(table + RECORD_BYTES * record) >> 2 * TERM_BITS);
+}
