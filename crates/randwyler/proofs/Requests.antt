@@ -3,11 +3,11 @@
 -- names its subjects, over tables with other records behind these (`replaced-calls`, `replaced-ceiling-calls`). Assumes nothing.
 use mathlib.Core.Path.{_≡_, sym, ap, subst, _∙_}
 use mathlib.Core.Bool.{true, false}
-use mathlib.Core.List.{List, _++_}
-use Prim.Native.Nat.{ℕ, suc, _*_, _≤_}
+use mathlib.Core.List.{List}
+use Prim.Native.Nat.{ℕ}
 use lib.ListN.{length, take}
 use Rattle.tsparql.specs.Query.{EverySet}
-use Rattle.tsparql.specs.Table.{wholeTable, recordLength, recordAt, factOf, factsIn}
+use Rattle.tsparql.specs.Table.{wholeTable, recordAt, factOf, factsIn}
 use Rattle.tsparql.specs.PatternSets.{least, rowsOver}
 use Rattle.tsparql.specs.Reading.{queryNode}
 use Rattle.tsparql.specs.Rewrite.{rewrite, Accepted, written}
@@ -16,7 +16,7 @@ use Rattle.tsparql.specs.Calls.{raiseOne, tallied, evaluate, ceilingCall}
 use Rattle.tsparql.specs.Totals.{totalsUntallied, totalsCall, TotalsBeside}
 use Rattle.tsparql.proofs.ChoiceLaws.{least-sound}
 use Rattle.tsparql.proofs.TotalsLaws.{totals-evaluate, totals-tally, totals-rewritten}
-use Rattle.patterns.specs.Scan.{NamedBelow}
+use Rattle.patterns.specs.Scan.{AlikeUpTo, NamedBelow}
 use Rattle.randwyler.specs.declared.Rewritten.{Rewritten}
 use Rattle.randwyler.specs.declared.Evaluated.{Evaluated}
 use Rattle.randwyler.specs.declared.Ceiling.{Ceiling}
@@ -70,19 +70,19 @@ totals-rewritten-calls t s result result′ r rewritten zero u first first′ se
 
 -- ---- request 2
 
--- two accepted tables begin with u, and go on in any way; every pattern of the query s names a lesser subject than record g of u has
-module _ (u rest other s : List ℕ) (g : ℕ) (long : recordLength * suc g ≤ length u) (accepted : Passes (tableRefusal (u ++ rest)))
-    (other-accepted : Passes (tableRefusal (u ++ other))) (named : EverySet (NamedBelow (factOf (recordAt u g) .subject)) (queryNode s)) where
+-- two accepted tables have the same records up to record g; every pattern of the query s names a lesser subject than that record has
+module _ (g : ℕ) (t u s : List ℕ) (alike : AlikeUpTo g (wholeTable t) (wholeTable u) t u) (accepted : Passes (tableRefusal t))
+    (also-accepted : Passes (tableRefusal u)) (named : EverySet (NamedBelow (factOf (recordAt t g) .subject)) (queryNode s)) where
   -- evaluations in row spaces with the same words, and with equal tallies, answer the same and leave the same words
   pub replaced-calls : (space first second : List ℕ) (a : Tally) (x y : Evaluated)
-      → evaluatedIn x first ≡ evaluate (tallyIn a) (u ++ rest) s space
-      → evaluatedIn y second ≡ evaluate (tallyIn a) (u ++ other) s space → evaluatedIn x first ≡ evaluatedIn y second
+      → evaluatedIn x first ≡ evaluate (tallyIn a) t s space → evaluatedIn y second ≡ evaluate (tallyIn a) u s space
+      → evaluatedIn x first ≡ evaluatedIn y second
   replaced-calls space first second a x y one two =
       one
       ∙ ap (λ e. record { evaluated = e; tally = tallied (tallyIn a) (e .refusal) })
-      (evaluate-replaced u rest other s g long accepted other-accepted named space)
+      (evaluate-replaced g t u s alike accepted also-accepted named space)
       ∙ sym two
 
-  pub replaced-ceiling-calls : (x y : Ceiling) → ceilingIn x ≡ ceilingCall (u ++ rest) s → ceilingIn y ≡ ceilingCall (u ++ other) s
+  pub replaced-ceiling-calls : (x y : Ceiling) → ceilingIn x ≡ ceilingCall t s → ceilingIn y ≡ ceilingCall u s
       → ceilingIn x ≡ ceilingIn y
-  replaced-ceiling-calls x y one two = one ∙ ceiling-replaced u rest other s g long accepted other-accepted named ∙ sym two
+  replaced-ceiling-calls x y one two = one ∙ ceiling-replaced g t u s alike accepted also-accepted named ∙ sym two

@@ -1,5 +1,6 @@
 -- The calls: every number of an answer fits its type; lent memory keeps its length; an answered evaluation has at most the ceiling's
--- rows; two tables over which a query has one ceiling. Rewriting is in RewriteLaws, demand 3 in Demand3, the tally in TallyLaws. Assumes nothing.
+-- rows; two tables over which a query has one ceiling. Rewriting is in RewriteLaws, demand 3 in Demand3, the tally in TallyLaws.
+-- Assumes nothing.
 use mathlib.Core.Path.{_≡_, refl}
 use mathlib.Core.Bool.{Bool, true, false}
 use mathlib.Core.List.{List}

@@ -4,7 +4,7 @@ use mathlib.Core.Path.{_≡_, refl}
 use mathlib.Core.Bool.{Bool, true, false, _&&_, _||_, not, cond}
 use mathlib.Core.List.{List, [], _∷_}
 use Prim.Native.Nat.{ℕ, zero, suc, _+_, _*_, _/_, _%_, _^_, _≤_, _<_}
-use native.Mathlib.Nat.{add-zero}
+use native.Mathlib.Nat.{le-refl, add-zero}
 use native.Mathlib.Omega.{arith}
 use borrow.Author.Tests.{leb-true, eqb-true, ltb-true, ltb-false, not-false}
 use lib.Dec.{eqb, leb, ltb}
@@ -189,6 +189,27 @@ keyAt t i = key (factOf (recordAt t i))
 keyAt-below : (t : List ℕ) (i : ℕ) → RecordChecked t (suc i) → keyAt t i < keyAt t (suc i)
 unfolding factOf
 keyAt-below t i c = key-below (factOf (recordAt t i)) (factOf (recordAt t (suc i))) (omega arith) (omega arith) (c .rising)
+
+-- nor has it a lesser subject
+subject-step : (t : List ℕ) (i : ℕ) → RecordChecked t (suc i) → factOf (recordAt t i) .subject ≤ factOf (recordAt t (suc i)) .subject
+unfolding factOf
+subject-step t i c = let l = keyAt-below t i c in omega arith
+
+-- the subjects of a table that passed the check do not fall
+pub subjects-rise : (t : List ℕ) → TableChecked t → (j k : ℕ) → j ≤ k → k < length t / recordLength
+    → factOf (recordAt t j) .subject ≤ factOf (recordAt t k) .subject
+subjects-rise t c j zero h l = let same : j ≡ 0 = omega arith in rw same (le-refl (factOf (recordAt t 0) .subject))
+subjects-rise t c j (suc k) h l = go (ltb j (suc k)) refl (λ m. subjects-rise t c j k m (omega arith))
+  where
+    go : (b : Bool) → ltb j (suc k) ≡ b → (j ≤ k → factOf (recordAt t j) .subject ≤ factOf (recordAt t k) .subject)
+        → factOf (recordAt t j) .subject ≤ factOf (recordAt t (suc k)) .subject
+    go true e again =
+        let before = again (omega (arith, ltb-true j (suc k) e)) in
+        let step = subject-step t k (c .records (suc k) l) in
+        omega arith
+    go false e again =
+        let same : j ≡ suc k = omega (arith, ltb-false j (suc k) e) in
+        rw same (le-refl (factOf (recordAt t (suc k)) .subject))
 
 -- the facts of n records from record i on
 abbrev factsFrom : View → List ℕ → ℕ → ℕ → List Fact
