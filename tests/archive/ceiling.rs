@@ -32,19 +32,10 @@ const CASES: [(Inputs, usize); 3] = [(inputs::narrow, 120_000), (inputs::wide, 2
 /// The greatest ceiling.
 const CUT: u32 = 4_294_967_295;
 
-/// Calls with copies of both inputs that stand between random bytes at random alignments. The case fails if the answer is
-/// not the expected one, or if a byte of the copies or about them has changed.
-fn fenced(report: &mut Report, random: &mut Random, what: &str, table: &[u8], query: &[u8], expected: Ceiling) {
-    match fence::call(random, table, query, ffi::ceiling) {
-        Some(got) => report.ceiling(what, table, query, expected, got),
-        None => report.case(false, || format!("{what}: an input was changed")),
-    }
-}
-
-/// The same with an answer that is known without ceilings.rs.
+/// Tests a ceiling that is known without ceilings.rs.
 fn known(report: &mut Report, random: &mut Random, what: &str, table: &[u8], query: &[u8], expected: Ceiling) {
     report.case(ceilings::ceiling(table, query) == expected, || format!("{what}: ceilings.rs differs"));
-    fenced(report, random, what, table, query, expected);
+    ceilings::test(report, random, what, (table, query), expected);
 }
 
 /// A vector is `TABLE QUERY => NUMBER PLACE CEILING`.
@@ -135,7 +126,7 @@ fn random_cases(report: &mut Report) {
         numbers[expected.refusal.number as usize] += 1;
         zeros += u64::from(expected == Ceiling { refusal: NONE, ceiling: 0 });
         cuts += u64::from(expected.ceiling == CUT);
-        fenced(report, &mut random, &format!("random case {number}"), &table, &query, expected);
+        ceilings::test(report, &mut random, &format!("random case {number}"), (&table, &query), expected);
     }
     println!("random cases by number: {numbers:?}");
     for number in [0, 1, 3, 4, 6, 7] {

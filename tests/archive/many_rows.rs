@@ -10,7 +10,7 @@ use crate::report::Report;
 use crate::rows::{self, Evaluation, Outcome, Row, Seen, Trust, Value, LEFT_ROWS, MOST_ROWS};
 use crate::spaces::{self, Spaces};
 use crate::tables;
-use crate::vectors;
+use crate::vectors::{self, set};
 use std::collections::{BTreeSet, HashMap};
 
 /// The least number of pairs for which buckets are made.
@@ -19,20 +19,6 @@ const MANY_PAIRS: u64 = 1_024;
 type Fact = ([u32; 3], Trust);
 
 // ---- Queries as text
-
-/// A slot as in the display's trees: `?5`, or a term in decimal.
-fn slot(text: &str) -> String {
-    match text.strip_prefix('?') {
-        Some(variable) => format!("10{:04x}", vectors::number(variable)),
-        None => format!("{:06x}", vectors::number(text)),
-    }
-}
-
-/// A pattern set, its patterns between commas.
-fn set(patterns: &str) -> String {
-    let slots: Vec<String> = patterns.split(", ").flat_map(|pattern| pattern.split(' ').map(slot)).collect();
-    format!("{:02x} {}", slots.len() / 3, slots.join(" "))
-}
 
 fn union(one: &str, other: &str) -> String {
     format!("30 {one} {other}")

@@ -8,6 +8,7 @@ mod fence;
 mod ffi;
 mod groups;
 mod inputs;
+mod kinds;
 mod known_totals;
 mod limits;
 mod many_groups;
@@ -26,6 +27,7 @@ mod vectors;
 
 use chains::Chain;
 use groups::{Group, Totals, GROUP_WORDS};
+use kinds::{Kind, Kinds};
 use limits::{AtLimit, NullInput, TableAtLimit};
 use outputs::Outputs;
 use paper::{Refusal, Tally, Totalled, CHECK_LIMIT, MOST_RECORDS, NONE, VARIABLES};
@@ -34,7 +36,6 @@ use random::Random;
 use report::Report;
 use rows::{Outcome, Value, MOST_ROWS, ROW_WORDS};
 use stack::Deepest;
-use std::collections::BTreeMap;
 
 const RANDOM_CASES: usize = 105_000;
 /// Random cases are evaluated as far as so many rows of space, and left out if they take more steps.
@@ -111,9 +112,6 @@ fn random_inputs(random: &mut Random, large: &[u8]) -> (Vec<u8>, Vec<u8>) {
     }
 }
 
-/// What a call may come to: its name, how often random calls must come to it, and whether one did.
-type Kind = (&'static str, u64, bool);
-
 fn unknown_cell(group: &Group) -> bool {
     group.cell == Some(Value::Trust(None))
 }
@@ -169,7 +167,7 @@ fn kinds_of_lengths(totals: &Totals, [words, room]: [usize; 2]) -> [Kind; 10] {
 /// How often random calls came to each kind, and to each number.
 #[derive(Default)]
 struct Seen {
-    kinds: BTreeMap<&'static str, (u64, u64)>,
+    kinds: Kinds,
     numbers: [u64; 11],
 }
 
@@ -177,18 +175,12 @@ impl Seen {
     fn count(&mut self, totals: &Totals, lengths: [usize; 2]) {
         let number = totals.refusal(lengths).number;
         self.numbers[number as usize] += 1;
-        for (kind, least, seen) in kinds_of_groups(totals, number == 0).into_iter().chain(kinds_of_lengths(totals, lengths))
-        {
-            let counts = self.kinds.entry(kind).or_insert((least, 0));
-            counts.1 += u64::from(seen);
-        }
+        self.kinds.count(&kinds_of_groups(totals, number == 0));
+        self.kinds.count(&kinds_of_lengths(totals, lengths));
     }
 
     fn enough(&self, report: &mut Report) {
-        for (kind, (least, count)) in &self.kinds {
-            println!("random calls with {kind}: {count}");
-            report.case(count >= least, || format!("only {count} random calls with {kind}"));
-        }
+        self.kinds.enough(report, "random calls");
         println!("random calls by number: {:?}", self.numbers);
         for number in [0, 1, 2, 3, 4, 5, 6, 7, 8, 10] {
             let count = self.numbers[number];

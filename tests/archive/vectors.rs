@@ -52,6 +52,20 @@ pub fn query(text: &str) -> Vec<u8> {
     bytes(&NAMES.iter().fold(text.to_string(), |text, (name, bytes)| text.replace(*name, bytes)))
 }
 
+/// A slot as in the display's trees: `?5`, or a term in decimal.
+fn slot(text: &str) -> String {
+    match text.strip_prefix('?') {
+        Some(variable) => format!("10{:04x}", number(variable)),
+        None => format!("{:06x}", number(text)),
+    }
+}
+
+/// A pattern set for `query`, its patterns between commas.
+pub fn set(patterns: &str) -> String {
+    let slots: Vec<String> = patterns.split(", ").flat_map(|pattern| pattern.split(' ').map(slot)).collect();
+    format!("{:02x} {}", slots.len() / 3, slots.join(" "))
+}
+
 pub fn number(text: &str) -> u64 {
     text.parse().expect("a decimal number")
 }
