@@ -1,12 +1,11 @@
--- The check by the answers of its parts: a refused table is refused, and the answer on the query stands where the table passes; and the
--- ceiling of what was checked. Assumes nothing.
-use mathlib.Core.Path.{_≡_, sym, ap, _∙_}
+-- The check by the answers of its parts: an accepted table is seen whole, a refused one is refused, and the answer on the query stands
+-- where the table passes; and the ceiling of what was checked. Assumes nothing.
+use mathlib.Core.Path.{_≡_, sym, ap, subst, _∙_}
 use mathlib.Core.List.{List}
-use Prim.Native.Nat.{ℕ, _*_, _/_, _≤_}
+use Prim.Native.Nat.{ℕ}
 use native.Mathlib.Omega.{arith}
-use lib.ListN.{length}
 use borrow.Author.Tests.{eqb-true}
-use Rattle.tsparql.specs.Check.{refuse, Passes, check}
+use Rattle.tsparql.specs.Check.{refuse, Passes, tableRefusal, check}
 use Rattle.tsparql.specs.Table.{wholeTable}
 use Rattle.tsparql.specs.Calls.{ceilingRefused, ceilingAnswered, ceilingOver, ceilingCall}
 use Rattle.tsparql.proofs.QueryLaws.{check-parts}
@@ -24,6 +23,10 @@ use Rattle.randwyler.specs.declared.CheckAnswer.the-variants.{Sound, Ref
 use Rattle.randwyler.specs.Answers.{Checked, Ready}
 
 -- ---- both
+
+-- an accepted table is seen whole
+pub whole-seen : (t : List ℕ) → Passes (tableRefusal t) → Seen (wholeTable t) t
+whole-seen t z = record { passed = z; inside = omega arith }
 
 pub table-refuses : (t s : List ℕ) {n p : ℕ} → TableAnswers.Checked t (TA.Refused n p) → Checked t s (Refused n p)
 unfolding check
@@ -59,11 +62,8 @@ module _ (t s : List ℕ) (v : View) (h : Checked t s (Sound v)) where
   pub view-whole : viewOf v ≡ wholeTable t
   view-whole = rw (sym (h .sound)) at (h .view)
 
-  view-inside : 9 * v .records ≤ length t
-  view-inside = let e : v .records ≡ length t / 9 = ap (λ w. w .records) view-whole in omega arith
-
   pub view-seen : Seen (viewOf v) t
-  view-seen = record { passed = check-parts t s passed .0; inside = view-inside }
+  view-seen = subst (λ w. Seen w t) (sym view-whole) (whole-seen t (check-parts t s passed .0))
 
   pub checked-ready : Ready (viewOf v) t s
   checked-ready = record { passed = passed; seen = view-whole }

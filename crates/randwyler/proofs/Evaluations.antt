@@ -1,9 +1,8 @@
 -- Evaluation by the answers of its parts: what was refused by the check, and the answer to what passed it. Assumes nothing.
-use mathlib.Core.Path.{_≡_, sym, _∙_}
+use mathlib.Core.Path.{_≡_, sym, subst, _∙_}
 use mathlib.Core.Bool.{false}
 use mathlib.Core.List.{List}
 use Prim.Native.Nat.{ℕ, _≤_}
-use native.Mathlib.Omega.{arith}
 use borrow.Author.Tests.{eqb-false}
 use lib.ListN.{length}
 use Rattle.tsparql.specs.Table.{View, wholeTable, factsIn}
@@ -21,12 +20,12 @@ use Rattle.evaluation.specs.Evaluations.{isAnswered, answeredIn, Answers}
 use Rattle.evaluation.specs.declared.QueryRows.{QueryRows}
 use Rattle.randwyler.specs.declared.CheckAnswer.the-variants.{Refused}
 use Rattle.randwyler.specs.Answers.{Checked, Ready}
+use Rattle.randwyler.proofs.Checks.{whole-seen}
 
 -- ---- what was checked
 
 pub ready-seen : (v : View) (t s : List ℕ) → Ready v t s → Seen v t
-ready-seen v t s h =
-    record { passed = check-parts t s (h .passed) .0; inside = rw (h .seen) (omega arith) }
+ready-seen v t s h = subst (λ w. Seen w t) (sym (h .seen)) (whole-seen t (check-parts t s (h .passed) .0))
 
 pub ready-node : (v : View) (t s : List ℕ) → Ready v t s → NodeSound s × (nodeOf s ≡ queryNode s) × (length s ≤ evaluateLimit)
 ready-node v t s h =

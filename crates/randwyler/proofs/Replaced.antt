@@ -3,7 +3,6 @@
 use mathlib.Core.Path.{_≡_}
 use mathlib.Core.List.{List}
 use Prim.Native.Nat.{ℕ}
-use native.Mathlib.Omega.{arith}
 use Rattle.tsparql.specs.Query.{EverySet}
 use Rattle.tsparql.specs.Table.{wholeTable, recordAt, factOf}
 use Rattle.tsparql.specs.PatternSets.{least}
@@ -14,12 +13,8 @@ use Rattle.tsparql.proofs.NodeSets.{everySet-weaken}
 use Rattle.tsparql.proofs.EvaluateLaws.{evaluate-alike}
 use Rattle.tsparql.proofs.CallLaws.{ceiling-alike}
 use Rattle.patterns.specs.Scan.{AlikeUpTo, NamedBelow}
-use Rattle.patterns.specs.Sets.{Seen}
 use Rattle.patterns.proofs.ReplacedLaws.{setRows-replaced, figure-replaced}
-
--- an accepted table is seen whole
-whole-seen : (t : List ℕ) → Passes (tableRefusal t) → Seen (wholeTable t) t
-whole-seen t z = record { passed = z; inside = omega arith }
+use Rattle.randwyler.proofs.Checks.{whole-seen}
 
 module _ (g : ℕ) (t u s : List ℕ) (alike : AlikeUpTo g (wholeTable t) (wholeTable u) t u) (accepted : Passes (tableRefusal t))
     (also-accepted : Passes (tableRefusal u)) (named : EverySet (NamedBelow (factOf (recordAt t g) .subject)) (queryNode s)) where
