@@ -1,21 +1,27 @@
 -- What the requests of document 02 ask, on the calls: whatever they answer, by their promises alone. Request 1: totals beside an
 -- evaluation (`totals-calls`), their tally (`totals-tally-calls`), and of a rewriting (`totals-rewritten-calls`). Request 2: a query that
--- names its subjects, over tables with other records behind these (`replaced-calls`, `replaced-ceiling-calls`). Assumes nothing.
+-- names its subjects, over tables with other records behind these (`replaced-calls`, `replaced-ceiling-calls`). Request 3: how often a row
+-- stands in the row space (`sparql11-calls`, `published-calls`). Assumes nothing.
 use mathlib.Core.Path.{_≡_, sym, ap, subst, _∙_}
 use mathlib.Core.Bool.{true, false}
 use mathlib.Core.List.{List}
 use Prim.Native.Nat.{ℕ}
 use lib.ListN.{length, take}
+use Rattle.tsparql.specs.Values.{Row}
 use Rattle.tsparql.specs.Query.{EverySet}
 use Rattle.tsparql.specs.Table.{wholeTable, recordAt, factOf, factsIn}
-use Rattle.tsparql.specs.PatternSets.{least, rowsOver}
+use Rattle.tsparql.specs.PatternSets.{least, setRows, rowsOver}
 use Rattle.tsparql.specs.Reading.{queryNode}
 use Rattle.tsparql.specs.Rewrite.{rewrite, Accepted, written}
 use Rattle.tsparql.specs.Check.{Passes, tableRefusal}
+use Rattle.tsparql.specs.WellFormed.{Bytes}
+use Rattle.tsparql.specs.Cardinality.{cardinality, NoError, publishedCardinality, sparql11Cardinality}
 use Rattle.tsparql.specs.Calls.{raiseOne, tallied, evaluate, ceilingCall}
 use Rattle.tsparql.specs.Totals.{totalsUntallied, totalsCall, TotalsBeside}
 use Rattle.tsparql.proofs.ChoiceLaws.{least-sound}
+use Rattle.tsparql.proofs.Published.{least-set, query-sparql11, query-published}
 use Rattle.tsparql.proofs.TotalsLaws.{totals-evaluate, totals-tally, totals-rewritten}
+use Rattle.rows.specs.RowWords.{rowsIn}
 use Rattle.patterns.specs.Scan.{AlikeUpTo, NamedBelow}
 use Rattle.randwyler.specs.declared.Rewritten.{Rewritten}
 use Rattle.randwyler.specs.declared.Evaluated.{Evaluated}
@@ -24,6 +30,7 @@ use Rattle.randwyler.specs.declared.Tally.{Tally}
 use Rattle.randwyler.specs.declared.Totalled.{Totalled}
 use Rattle.randwyler.specs.Answers.{rewrittenIn, tallyIn, evaluatedIn, ceilingIn, totalsIn}
 use Rattle.randwyler.proofs.Replaced.{evaluate-replaced, ceiling-replaced}
+use Rattle.randwyler.proofs.AnsweredRows.{evaluated-checked, evaluated-rows}
 
 -- ---- request 1
 
@@ -86,3 +93,22 @@ module _ (g : ℕ) (t u s : List ℕ) (alike : AlikeUpTo g (wholeTable t) (whole
   pub replaced-ceiling-calls : (x y : Ceiling) → ceilingIn x ≡ ceilingCall t s → ceilingIn y ≡ ceilingCall u s
       → ceilingIn x ≡ ceilingIn y
   replaced-ceiling-calls x y one two = one ∙ ceiling-replaced g t u s alike accepted also-accepted named ∙ sym two
+
+-- ---- request 3
+
+-- an answered evaluation of a query s over a table t
+module _ (t s space space′ : List ℕ) (a : Tally) (x : Evaluated) (bytes : Bytes t)
+    (is : evaluatedIn x space′ ≡ evaluate (tallyIn a) t s space) (number : x .number ≡ 0) where
+  -- a row stands in the row space as often as the query's operator says, with the left join of SPARQL 1.1
+  pub sparql11-calls : (r : Row)
+      → cardinality (rowsIn (x .rows) space′) r ≡ sparql11Cardinality least (factsIn (wholeTable t) t) (queryNode s) r
+  sparql11-calls r =
+      ap (λ (rs : List Row). cardinality rs r) (evaluated-rows t s space space′ a x is number bytes)
+      ∙ query-sparql11 least least-set t s (evaluated-checked t s space space′ a x is number) r
+
+  -- and as often as is published, where the condition of a left join does not err on the row's merges
+  pub published-calls : (r : Row) → NoError (setRows least (factsIn (wholeTable t) t)) (queryNode s) r
+      → cardinality (rowsIn (x .rows) space′) r ≡ publishedCardinality least (factsIn (wholeTable t) t) (queryNode s) r
+  published-calls r e =
+      ap (λ (rs : List Row). cardinality rs r) (evaluated-rows t s space space′ a x is number bytes)
+      ∙ query-published least least-set t s (evaluated-checked t s space space′ a x is number) r e

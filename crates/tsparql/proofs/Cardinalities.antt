@@ -1,28 +1,33 @@
--- The rows that an operator makes have the cardinalities of the published algebra (specs/Cardinality.antt); pattern sets are in
--- Solutions, all nodes together in Published.
--- By group: tests and lists; the tests of sameness are equality; the cardinality of a row in lists put together; a law per operator;
--- and Definition 3.1 as it is published, for a variable that is free (cardinality-project-free). Sums over distinct rows: SumLaws.
--- Assumes nothing.
-use mathlib.Core.Path.{_≡_, refl, sym, ap, ap₂, _∙_, fun-ext}
-use mathlib.Core.Bool.{Bool, true, false, _&&_, _||_, not, and-comm}
+-- The rows that an operator makes have the cardinalities of the published algebra (specs/Cardinality.antt), with the difference of
+-- SPARQL 1.1; how many more left rows that has, exactly (cardinality-errors). Pattern sets are in Solutions, checked queries in Published.
+-- By group: tests and lists; the tests of sameness are equality; the cardinality of a row in lists put together; a law per operator; both
+-- differences; nodes (cardinality-sparql11); and Definition 3.1 as it is published, for a variable that is free
+-- (cardinality-project-free). Sums over distinct rows: SumLaws. Assumes nothing.
+use mathlib.Core.Path.{_≡_, refl, sym, ap, ap₂, _∙_}
+use mathlib.Core.Bool.{Bool, true, false, _&&_, _||_, not, and-comm, and-true}
 use mathlib.Core.List.{List, [], _∷_, _++_, map}
 use Prim.Native.Nat.{ℕ, _+_, _*_}
+use native.Mathlib.Omega.{arith}
 use lib.ListN.{length, set, length-append, length-map}
 use lib.Seq.{set-set, set-getD}
 use borrow.Author.Tests.{eqb-true, eq-eqb}
 use Rattle.tsparql.specs.Lists.{Every, consIf, onlyIf, keepIf, allPass, sumOver, concatMap}
 use Rattle.tsparql.specs.Values.{Trust, known, unknown, Cell, free, term, trusted, Row, sameTrust, sameCell}
 use Rattle.tsparql.specs.Values.{compatible, merge, withTrust, trustInside}
-use Rattle.tsparql.specs.Query.{Condition}
-use Rattle.tsparql.specs.Conditions.{Truth, holds, fails, errs, truthOn, trueOn, blocks, blocksOn}
-use Rattle.tsparql.specs.Rows.{merges, joinRows, stands, leftJoinRows}
-use Rattle.tsparql.specs.Cardinality.{FreeAt, sameCells, sameRow, cardinality, distinct, countIf, isFalse, inDifference}
+use Rattle.tsparql.specs.Query.{Pattern, Condition}
+use Rattle.tsparql.specs.Query.{Node, patternSet, join, leftJoin, union, filter, projectTrust, ensureTrust}
+use Rattle.tsparql.specs.Conditions.{Truth, holds, fails, errs, truthOn, trueOn}
+use Rattle.tsparql.specs.Rows.{merges, joinRows, stands, leftJoinRows, rowsOf}
+use Rattle.tsparql.specs.Cardinality.{FreeAt, sameCells, sameRow, cardinality, distinct, countIf}
+use Rattle.tsparql.specs.Cardinality.{isFalse, isNotTrue, isNoError, onMerges, inDifference}
 use Rattle.tsparql.specs.Cardinality.{joinCardinality, filterCardinality, differenceCardinality, leftJoinCardinality}
-use Rattle.tsparql.specs.Cardinality.{unionCardinality, projectCardinality, ensureCardinality}
-use Rattle.tsparql.proofs.ListLaws.{and-left, and-right, and-both, test-eq, every-of, every-weaken, allPass-keepIf}
+use Rattle.tsparql.specs.Cardinality.{errorCardinality, unionCardinality, projectCardinality, ensureCardinality}
+use Rattle.tsparql.specs.Cardinality.{nodeCardinality, NoError}
+use Rattle.tsparql.proofs.ListLaws.{and-left, and-right, and-both, test-eq, every-of, every-weaken}
+use Rattle.tsparql.proofs.ListLaws.{allPass-cong, allPass-and, allPass-keepIf}
 use Rattle.tsparql.proofs.ListLaws.{consIf-append, keepIf-append, keepIf-keepIf, keepIf-cong, keepIf-and}
 use Rattle.tsparql.proofs.ListLaws.{keepIf-map, keepIf-concatMap}
-use Rattle.tsparql.proofs.SumLaws.{sumOver-add, sumOver-mul, sumOver-same, countIf-mul}
+use Rattle.tsparql.proofs.SumLaws.{sumOver-add, sumOver-mul, sumOver-same, countIf-mul, countIf-split}
 use Rattle.tsparql.proofs.SumLaws.{TellsSame, same-of-eq, sum-distinct, length-keepIf-distinct}
 
 -- ---- tests and lists
@@ -181,23 +186,20 @@ pub cardinality-filter : (c : Condition) (xs : List Row) (r : Row)
     → cardinality (keepIf (trueOn c) xs) r ≡ filterCardinality c (cardinality xs) r
 cardinality-filter c xs r = cardinality-keepIf (trueOn c) xs r
 
--- all but false blocks
-not-blocks : (t : Truth) → not (blocks t) ≡ isFalse t
-not-blocks holds = refl
-not-blocks fails = refl
-not-blocks errs = refl
+-- the difference's first set is in its second
+inDifference-merges : (leaves : Truth → Bool) (c : Condition) (ys : List Row) (x : Row) → inDifference leaves c ys x ≡ onMerges leaves c ys x
+inDifference-merges leaves c ys x = or-absorb _ _ (allPass-or (λ y. not (compatible x y)) _ ys)
 
--- a left row stands alone just where it is in the difference
-pub stands-inDifference : (c : Condition) (ys : List Row) (x : Row) → stands c (merges x ys) ≡ inDifference c ys x
-unfolding stands blocksOn
+-- a left row stands alone just where it is in the difference of SPARQL 1.1
+pub stands-inDifference : (c : Condition) (ys : List Row) (x : Row) → stands c (merges x ys) ≡ inDifference isNotTrue c ys x
+unfolding stands trueOn
 stands-inDifference c ys x =
-    allPass-map (λ m. not (blocksOn c m)) (merge x) (keepIf (compatible x) ys)
-    ∙ allPass-keepIf (λ y. not (blocksOn c (merge x y))) (compatible x) ys
-    ∙ ap (λ (p : Row → Bool). allPass (λ y. not (compatible x y) || p y) ys) (fun-ext (λ y. not-blocks (truthOn (merge x y .cells) c)))
-    ∙ sym (or-absorb _ _ (allPass-or (λ y. not (compatible x y)) _ ys))
+    allPass-map (λ m. not (trueOn c m)) (merge x) (keepIf (compatible x) ys)
+    ∙ allPass-keepIf (λ y. not (trueOn c (merge x y))) (compatible x) ys
+    ∙ sym (inDifference-merges isNotTrue c ys x)
 
 pub cardinality-leftJoin : (c : Condition) (xs ys : List Row) (r : Row)
-    → cardinality (leftJoinRows c xs ys) r ≡ leftJoinCardinality c xs ys r
+    → cardinality (leftJoinRows c xs ys) r ≡ leftJoinCardinality isNotTrue c xs ys r
 cardinality-leftJoin c xs ys r =
     cardinality-concatMap-append (λ x. keepIf (trueOn c) (merges x ys)) (λ x. consIf (stands c (merges x ys)) x []) xs r
     ∙ ap₂ _+_ filtered difference
@@ -208,7 +210,7 @@ cardinality-leftJoin c xs ys r =
         ∙ cardinality-filter c (joinRows xs ys) r
         ∙ ap (countIf (trueOn c r)) (cardinality-join xs ys r)
 
-    difference : cardinality (concatMap (λ x. consIf (stands c (merges x ys)) x []) xs) r ≡ differenceCardinality c xs ys r
+    difference : cardinality (concatMap (λ x. consIf (stands c (merges x ys)) x []) xs) r ≡ differenceCardinality isNotTrue c xs ys r
     difference =
         ap (λ (zs : List Row). cardinality zs r) (concatMap-single (λ x. stands c (merges x ys)) xs)
         ∙ cardinality-keepIf (λ x. stands c (merges x ys)) xs r
@@ -223,6 +225,88 @@ cardinality-project v xs r =
 
 pub cardinality-ensure : (l u : ℕ) (xs : List Row) (r : Row) → cardinality (keepIf (trustInside l u) xs) r ≡ ensureCardinality l u xs r
 cardinality-ensure l u xs r = cardinality-keepIf (trustInside l u) xs r
+
+-- ---- both differences
+
+-- false is what is neither true nor an error
+isFalse-parts : (t : Truth) → isFalse t ≡ isNotTrue t && isNoError t
+isFalse-parts holds = refl
+isFalse-parts fails = refl
+isFalse-parts errs = refl
+
+-- the published difference leaves the rows that SPARQL 1.1 leaves, and on whose merges the condition does not err
+pub inDifference-parts : (c : Condition) (ys : List Row) (x : Row)
+    → inDifference isFalse c ys x ≡ inDifference isNotTrue c ys x && onMerges isNoError c ys x
+inDifference-parts c ys x =
+    inDifference-merges isFalse c ys x
+    ∙ allPass-cong (passes isFalse) (λ y. passes isNotTrue y && passes isNoError y) ys
+    (every-of (λ y. at (compatible x y) (truthOn (merge x y .cells) c)) ys)
+    ∙ allPass-and (passes isNotTrue) (passes isNoError) ys
+    ∙ ap (λ (b : Bool). b && onMerges isNoError c ys x) (sym (inDifference-merges isNotTrue c ys x))
+  where
+    passes : (Truth → Bool) → Row → Bool
+    passes such y = not (compatible x y) || such (truthOn (merge x y .cells) c)
+
+    at : (b : Bool) (t : Truth) → not b || isFalse t ≡ (not b || isNotTrue t) && (not b || isNoError t)
+    at true t = isFalse-parts t
+    at false t = refl
+
+-- the rows that pass one test, by whether they pass another
+countIf-and : (b d : Bool) (n : ℕ) → countIf b n ≡ countIf (b && d) n + countIf (b && not d) n
+countIf-and true d n = countIf-split d n
+countIf-and false d n = refl
+
+-- what the rows of a left join have beyond the published cardinality: the left rows that stand by an error
+pub cardinality-errors : (c : Condition) (xs ys : List Row) (r : Row)
+    → cardinality (leftJoinRows c xs ys) r ≡ leftJoinCardinality isFalse c xs ys r + errorCardinality c xs ys r
+cardinality-errors c xs ys r =
+    cardinality-leftJoin c xs ys r ∙ omega (arith, split)
+  where
+    left : Bool → ℕ
+    left b = countIf b (cardinality xs r)
+
+    split : differenceCardinality isNotTrue c xs ys r ≡ differenceCardinality isFalse c xs ys r + errorCardinality c xs ys r
+    split =
+        countIf-and (inDifference isNotTrue c ys r) (onMerges isNoError c ys r) (cardinality xs r)
+        ∙ ap₂ (λ (b d : Bool). left b + left (d && not (onMerges isNoError c ys r))) (sym (inDifference-parts c ys r))
+        (inDifference-merges isNotTrue c ys r)
+
+-- ---- nodes
+
+-- how often a row stands among the rows of a node, with how often it stands in a pattern set as given
+pub cardinality-node : (sets : List Pattern → Row → ℕ) (base : List Pattern → List Row) (q : Node) (r : Row)
+    → ((ps : List Pattern) → q ≡ patternSet ps → cardinality (base ps) r ≡ sets ps r)
+    → cardinality (rowsOf base q) r ≡ nodeCardinality isNotTrue sets base q r
+unfolding rowsOf nodeCardinality
+cardinality-node sets base (patternSet ps) r h = h ps refl
+cardinality-node sets base (join x y) r h = cardinality-join (rowsOf base x) (rowsOf base y) r
+cardinality-node sets base (leftJoin c x y) r h = cardinality-leftJoin c (rowsOf base x) (rowsOf base y) r
+cardinality-node sets base (union x y) r h = cardinality-union (rowsOf base x) (rowsOf base y) r
+cardinality-node sets base (filter c x) r h = cardinality-filter c (rowsOf base x) r
+cardinality-node sets base (projectTrust v x) r h = cardinality-project v (rowsOf base x) r
+cardinality-node sets base (ensureTrust l u x) r h = cardinality-ensure l u (rowsOf base x) r
+
+-- of every node and row, whatever the rows of pattern sets are: the cardinality of its operator with the difference of SPARQL 1.1
+pub cardinality-sparql11 : (base : List Pattern → List Row) (q : Node) (r : Row)
+    → cardinality (rowsOf base q) r ≡ nodeCardinality isNotTrue (λ ps. cardinality (base ps)) base q r
+cardinality-sparql11 base q r = cardinality-node (λ ps. cardinality (base ps)) base q r (λ ps e. refl)
+
+-- a row without an error has one cardinality by both differences
+pub cardinality-noError : (sets : List Pattern → Row → ℕ) (base : List Pattern → List Row) (q : Node) (r : Row) → NoError base q r
+    → nodeCardinality isNotTrue sets base q r ≡ nodeCardinality isFalse sets base q r
+unfolding nodeCardinality
+cardinality-noError sets base (patternSet ps) r e = refl
+cardinality-noError sets base (join x y) r e = refl
+cardinality-noError sets base (leftJoin c x y) r e =
+    let leaves : Bool = inDifference isNotTrue c (rowsOf base y) r in
+    let same : inDifference isFalse c (rowsOf base y) r ≡ leaves =
+    inDifference-parts c (rowsOf base y) r ∙ ap (λ (b : Bool). leaves && b) e ∙ and-true leaves in
+    ap (λ (b : Bool). filterCardinality c (joinCardinality (rowsOf base x) (rowsOf base y)) r + countIf b (cardinality (rowsOf base x) r))
+    (sym same)
+cardinality-noError sets base (union x y) r e = refl
+cardinality-noError sets base (filter c x) r e = refl
+cardinality-noError sets base (projectTrust v x) r e = refl
+cardinality-noError sets base (ensureTrust l u x) r e = refl
 
 -- ---- Definition 3.1 as it is published
 

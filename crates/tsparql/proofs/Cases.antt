@@ -14,7 +14,7 @@ use lib.ListN.{length, replicate, length-replicate}
 use Rattle.tsparql.specs.Lists.{consIf, concatMap, upFrom}
 use Rattle.tsparql.specs.Values.{known, Cell, free, term, Row, compatible, mergeCells}
 use Rattle.tsparql.specs.Query.{Slot, aTerm, aVariable, Pattern}
-use Rattle.tsparql.specs.Conditions.{truthOn, trueOn, blocksOn}
+use Rattle.tsparql.specs.Conditions.{truthOn, trueOn}
 use Rattle.tsparql.specs.Rows.{stands, rowsOf, spaceOf, pairsOf}
 use Rattle.tsparql.specs.Table.{Fact, bigEndian, recordAt, factOf, below, wholeTable, factAt, factsIn}
 use Rattle.tsparql.specs.PatternSets.{bindPattern, matches, choices, least, setRows, rowsOver, spaceOver, pairsOver}
@@ -296,8 +296,14 @@ moreCases =
     -- a union: left rows, then right rows
     ∷ (W with hex "30" ++ (A ++ B)
     prints ascii "rows 4 peak 4 pairs 0\n800 ?0=1\n? ?0=2\n900 ?0=1 ?1=11\n200 ?0=1 ?1=12\n")
-    -- a left join whose condition, ?1 same as the free ?2, errs on each merge of ?0 = 1: that row yields nothing
-    ∷ (W with leftAB (hex "11 02") prints ascii "rows 1 peak 5 pairs 4\n? ?0=2\n")
+    -- a left join whose condition, ?1 same as the free ?2, errs on each merge of ?0 = 1: that row itself, once
+    ∷ (W with leftAB (hex "11 02") prints ascii "rows 2 peak 6 pairs 4\n800 ?0=1\n? ?0=2\n")
+    -- an error on one merge and false on the other: the same
+    ∷ (W with leftAB (hex "50 21 00 00 0B 11 02") prints ascii "rows 2 peak 6 pairs 4\n800 ?0=1\n? ?0=2\n")
+    -- left rows that stand twice, and an error on each merge: each of them, once
+    ∷ (W with hex "20 11 02 30" ++ (A ++ (A ++ B)) prints ascii "rows 4 peak 10 pairs 8\n800 ?0=1\n? ?0=2\n800 ?0=1\n? ?0=2\n")
+    -- the trust of the left row, in ?2, less than itself: false where it is known, an error where it is unknown
+    ∷ (W with hex "20 32 02 52" ++ (A ++ hex "00") prints ascii "rows 2 peak 5 pairs 2\n800 ?0=1 ?2=t800\n? ?0=2 ?2=t?\n")
     -- true on one merge and an error on the other: the true one, and not the row itself
     ∷ (W with leftAB (hex "60 21 00 00 0B 11 02") prints ascii "rows 2 peak 6 pairs 4\n800 ?0=1 ?1=11\n? ?0=2\n")
     -- false on every merge: the left rows themselves
@@ -527,7 +533,7 @@ unfolding paperCases moreCases pushCases conditionCases figureCases totalsCases 
 lists = tt
 
 rows : Unit {0}
-unfolding compatible mergeCells truthOn trueOn blocksOn stands rowsOf spaceOf pairsOf bindPattern matches choices least setRows
+unfolding compatible mergeCells truthOn trueOn stands rowsOf spaceOf pairsOf bindPattern matches choices least setRows
 rows = tt
 
 tables : Unit {0}

@@ -1,7 +1,8 @@
--- Every node of a query that passes the check with its table has the published cardinalities (`checked-published`): pattern sets by
--- Solutions, operators by Cardinalities. Groups: what a solution sets (`solution-set`); the least trust is an aggregate of a set
+-- Every node of a query that passes the check with its table has the cardinalities with the difference of SPARQL 1.1
+-- (`checked-sparql11`), and the published ones of every row on whose merges its condition does not err (`checked-published`): pattern
+-- sets by Solutions, operators by Cardinalities. Groups: what a solution sets (`solution-set`); the least trust is an aggregate of a set
 -- (`least-set`); nodes. Assumes nothing.
-use mathlib.Core.Path.{_≡_, refl, sym, ap, _∙_}
+use mathlib.Core.Path.{_≡_, refl, sym, ap, subst, _∙_}
 use mathlib.Core.Bool.{Bool, true, false, _&&_, _||_, and-comm, and-false}
 use mathlib.Core.List.{List, [], _∷_, _++_}
 use Prim.Native.Nat.{ℕ, _≤_, _<_, min}
@@ -15,20 +16,17 @@ use Rattle.tsparql.specs.Values.{lesser, isFree, sameCell}
 use Rattle.tsparql.specs.Query.{Slot, aTerm, aVariable, Pattern}
 use Rattle.tsparql.specs.Query.{Node, patternSet, join, leftJoin, union, filter, projectTrust, ensureTrust}
 use Rattle.tsparql.specs.Table.{Fact, wholeTable, factsIn}
-use Rattle.tsparql.specs.PatternSets.{Aggregate, least, rowsOver}
-use Rattle.tsparql.specs.Rows.{rowsOf}
+use Rattle.tsparql.specs.PatternSets.{Aggregate, least, setRows}
 use Rattle.tsparql.specs.Reading.{queryNode}
 use Rattle.tsparql.specs.WellFormed.{SlotFormed, PatternFormed, NodeFormed}
 use Rattle.tsparql.specs.Check.{Passes, slotVariables, variablesOf, evaluateLimit, check}
 use Rattle.tsparql.specs.Cardinality.{slotCell, becomes, becomesRecord, isSolution}
-use Rattle.tsparql.specs.Cardinality.{SetAggregate, publishedCardinality, Published, EveryNode}
+use Rattle.tsparql.specs.Cardinality.{SetAggregate, setCardinality, Sparql11, Published, EveryNode}
 use Rattle.tsparql.proofs.ListLaws.{and-left, and-right, and-both, and-interchange, test-eq}
 use Rattle.tsparql.proofs.ListLaws.{every-weaken, every-append, every-concatMap, allPass-passes}
 use Rattle.tsparql.proofs.TableLaws.{Rising, key, factsIn-rising}
 use Rattle.tsparql.proofs.QueryLaws.{check-parts, query-checked}
-use Rattle.tsparql.proofs.Cardinalities.{sameCell-true}
-use Rattle.tsparql.proofs.Cardinalities.{cardinality-join, cardinality-leftJoin, cardinality-union, cardinality-filter}
-use Rattle.tsparql.proofs.Cardinalities.{cardinality-project, cardinality-ensure}
+use Rattle.tsparql.proofs.Cardinalities.{sameCell-true, cardinality-node, cardinality-noError}
 use Rattle.tsparql.proofs.Solutions.{becomes-parts, cardinality-set}
 
 -- ---- what a solution sets
@@ -120,52 +118,50 @@ formed-variables p h =
     slot (aTerm a) k = tt
     slot (aVariable v) k = (k, tt)
 
--- how often a row stands among the rows of a well-formed node is the published cardinality, over facts whose triples rise
-pub cardinality-published : (g : Aggregate) → SetAggregate g → (fs : List Fact) → Rising key fs → (q : Node) → NodeFormed q
-    → Published g fs q
-unfolding rowsOf publishedCardinality
-cardinality-published g set fs k (patternSet ps) h r =
-    cardinality-set g set fs k ps (every-concatMap (λ v. v < 16) variablesOf ps (every-weaken formed-variables ps (h .1))) r
-cardinality-published g set fs k (join x y) h r = cardinality-join (rowsOver g fs x) (rowsOver g fs y) r
-cardinality-published g set fs k (leftJoin c x y) h r = cardinality-leftJoin c (rowsOver g fs x) (rowsOver g fs y) r
-cardinality-published g set fs k (union x y) h r = cardinality-union (rowsOver g fs x) (rowsOver g fs y) r
-cardinality-published g set fs k (filter c x) h r = cardinality-filter c (rowsOver g fs x) r
-cardinality-published g set fs k (projectTrust v x) h r = cardinality-project v (rowsOver g fs x) r
-cardinality-published g set fs k (ensureTrust l u x) h r = cardinality-ensure l u (rowsOver g fs x) r
+-- over facts whose triples rise, and an aggregate of a set of them: how often a row stands among the rows of a well-formed node
+module _ (g : Aggregate) (set : SetAggregate g) (fs : List Fact) (k : Rising key fs) where
+  pub cardinality-formed : (q : Node) → NodeFormed q → Sparql11 g fs q
+  cardinality-formed q h r =
+      cardinality-node (setCardinality g fs) (setRows g fs) q r λ ps e.
+      let formed = subst NodeFormed e h in
+      cardinality-set g set fs k ps (every-concatMap (λ v. v < 16) variablesOf ps (every-weaken formed-variables ps (formed .1))) r
 
--- and so it is at every node in it
-formed-published : (g : Aggregate) → SetAggregate g → (fs : List Fact) → Rising key fs → (q : Node) → NodeFormed q
-    → EveryNode (Published g fs) q
-formed-published g set fs k (patternSet ps) h = cardinality-published g set fs k (patternSet ps) h
-formed-published g set fs k (join x y) h = (
-  cardinality-published g set fs k (join x y) h,
-  formed-published g set fs k x (h .0),
-  formed-published g set fs k y (h .1),
-)
-formed-published g set fs k (leftJoin c x y) h = (
-  cardinality-published g set fs k (leftJoin c x y) h,
-  formed-published g set fs k x (h .1),
-  formed-published g set fs k y (h .2),
-)
-formed-published g set fs k (union x y) h = (
-  cardinality-published g set fs k (union x y) h,
-  formed-published g set fs k x (h .0),
-  formed-published g set fs k y (h .1),
-)
-formed-published g set fs k (filter c x) h = (cardinality-published g set fs k (filter c x) h, formed-published g set fs k x (h .1))
-formed-published g set fs k (projectTrust v x) h = (
-  cardinality-published g set fs k (projectTrust v x) h,
-  formed-published g set fs k x (h .1),
-)
-formed-published g set fs k (ensureTrust l u x) h = (
-  cardinality-published g set fs k (ensureTrust l u x) h,
-  formed-published g set fs k x (h .2),
-)
+  -- is the published cardinality too, where no condition errs
+  pub cardinality-published : (q : Node) → NodeFormed q → Published g fs q
+  cardinality-published q h r e = cardinality-formed q h r ∙ cardinality-noError (setCardinality g fs) (setRows g fs) q r e
 
--- over a table and a query that pass the check, the rows of every node of the query have the published cardinalities
-pub checked-published : (g : Aggregate) → SetAggregate g → (t s : List ℕ) → Passes (check t s)
-    → EveryNode (Published g (factsIn (wholeTable t) t)) (queryNode s)
-checked-published g set t s z =
-    let both = check-parts t s z in
-    formed-published g set (factsIn (wholeTable t) t) (factsIn-rising t (both .0)) (queryNode s)
-    (query-checked evaluateLimit s (both .1) .formed)
+-- what holds of every well-formed node holds of every node in such a one
+formed-every : (P : Node → Type 0) → ((q : Node) → NodeFormed q → P q) → (q : Node) → NodeFormed q → EveryNode P q
+formed-every P p (patternSet ps) h = p (patternSet ps) h
+formed-every P p (join x y) h = (p (join x y) h, formed-every P p x (h .0), formed-every P p y (h .1))
+formed-every P p (leftJoin c x y) h = (p (leftJoin c x y) h, formed-every P p x (h .1), formed-every P p y (h .2))
+formed-every P p (union x y) h = (p (union x y) h, formed-every P p x (h .0), formed-every P p y (h .1))
+formed-every P p (filter c x) h = (p (filter c x) h, formed-every P p x (h .1))
+formed-every P p (projectTrust v x) h = (p (projectTrust v x) h, formed-every P p x (h .1))
+formed-every P p (ensureTrust l u x) h = (p (ensureTrust l u x) h, formed-every P p x (h .2))
+
+-- over a table and a query that pass the check
+module _ (g : Aggregate) (set : SetAggregate g) (t s : List ℕ) (z : Passes (check t s)) where
+  abbrev facts : List Fact
+  facts = factsIn (wholeTable t) t
+
+  rising : Rising key facts
+  rising = factsIn-rising t (check-parts t s z .0)
+
+  formed : NodeFormed (queryNode s)
+  formed = query-checked evaluateLimit s (check-parts t s z .1) .formed
+
+  -- the whole query's rows
+  pub query-sparql11 : Sparql11 g facts (queryNode s)
+  query-sparql11 = cardinality-formed g set facts rising (queryNode s) formed
+
+  pub query-published : Published g facts (queryNode s)
+  query-published = cardinality-published g set facts rising (queryNode s) formed
+
+  -- at every node of the query the rows have the cardinalities with the difference of SPARQL 1.1
+  pub checked-sparql11 : EveryNode (Sparql11 g facts) (queryNode s)
+  checked-sparql11 = formed-every (Sparql11 g facts) (cardinality-formed g set facts rising) (queryNode s) formed
+
+  -- and the published ones, where no condition errs
+  pub checked-published : EveryNode (Published g facts) (queryNode s)
+  checked-published = formed-every (Published g facts) (cardinality-published g set facts rising) (queryNode s) formed

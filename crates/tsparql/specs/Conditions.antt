@@ -91,12 +91,3 @@ isTrue errs = false
 -- the condition is true on the row
 unfoldable pub trueOn : Condition → Row → Bool
 trueOn c r = isTrue (truthOn (r .cells) c)
-
--- what a merge's truth does to its left row: all but false keeps the left row from standing alone
-abbrev pub blocks : Truth → Bool
-blocks holds = true
-blocks fails = false
-blocks errs = true
-
-unfoldable pub blocksOn : Condition → Row → Bool
-blocksOn c r = blocks (truthOn (r .cells) c)
