@@ -27,7 +27,7 @@ use Rattle.tsparql.proofs.ListLaws.{and-left, and-right, and-both, test
 use Rattle.tsparql.proofs.ListLaws.{allPass-cong, allPass-and, allPass-keepIf}
 use Rattle.tsparql.proofs.ListLaws.{consIf-append, keepIf-append, keepIf-keepIf, keepIf-cong, keepIf-and}
 use Rattle.tsparql.proofs.ListLaws.{keepIf-map, keepIf-concatMap}
-use Rattle.tsparql.proofs.SumLaws.{sumOver-add, sumOver-mul, sumOver-same, countIf-mul, countIf-split}
+use Rattle.tsparql.proofs.SumLaws.{sumOver-add, sumOver-mul, sumOver-same, countIf-mul, countIf-and}
 use Rattle.tsparql.proofs.SumLaws.{TellsSame, same-of-eq, sum-distinct, length-keepIf-distinct}
 
 -- ---- tests and lists
@@ -187,7 +187,8 @@ pub cardinality-filter : (c : Condition) (xs : List Row) (r : Row)
 cardinality-filter c xs r = cardinality-keepIf (trueOn c) xs r
 
 -- the difference's first set is in its second
-inDifference-merges : (leaves : Truth → Bool) (c : Condition) (ys : List Row) (x : Row) → inDifference leaves c ys x ≡ onMerges leaves c ys x
+inDifference-merges : (leaves : Truth → Bool) (c : Condition) (ys : List Row) (x : Row)
+    → inDifference leaves c ys x ≡ onMerges leaves c ys x
 inDifference-merges leaves c ys x = or-absorb _ _ (allPass-or (λ y. not (compatible x y)) _ ys)
 
 -- a left row stands alone just where it is in the difference of SPARQL 1.1
@@ -251,16 +252,10 @@ inDifference-parts c ys x =
     at true t = isFalse-parts t
     at false t = refl
 
--- the rows that pass one test, by whether they pass another
-countIf-and : (b d : Bool) (n : ℕ) → countIf b n ≡ countIf (b && d) n + countIf (b && not d) n
-countIf-and true d n = countIf-split d n
-countIf-and false d n = refl
-
 -- what the rows of a left join have beyond the published cardinality: the left rows that stand by an error
 pub cardinality-errors : (c : Condition) (xs ys : List Row) (r : Row)
     → cardinality (leftJoinRows c xs ys) r ≡ leftJoinCardinality isFalse c xs ys r + errorCardinality c xs ys r
-cardinality-errors c xs ys r =
-    cardinality-leftJoin c xs ys r ∙ omega (arith, split)
+cardinality-errors c xs ys r = cardinality-leftJoin c xs ys r ∙ omega (arith, split)
   where
     left : Bool → ℕ
     left b = countIf b (cardinality xs r)

@@ -118,15 +118,16 @@ formed-variables p h =
     slot (aTerm a) k = tt
     slot (aVariable v) k = (k, tt)
 
--- over facts whose triples rise, and an aggregate of a set of them: how often a row stands among the rows of a well-formed node
+-- over facts whose triples rise, and an aggregate of a set of facts
 module _ (g : Aggregate) (set : SetAggregate g) (fs : List Fact) (k : Rising key fs) where
+  -- the rows of a well-formed node have the cardinalities with the difference of SPARQL 1.1
   pub cardinality-formed : (q : Node) → NodeFormed q → Sparql11 g fs q
   cardinality-formed q h r =
       cardinality-node (setCardinality g fs) (setRows g fs) q r λ ps e.
       let formed = subst NodeFormed e h in
       cardinality-set g set fs k ps (every-concatMap (λ v. v < 16) variablesOf ps (every-weaken formed-variables ps (formed .1))) r
 
-  -- is the published cardinality too, where no condition errs
+  -- and the published ones, where no condition errs
   pub cardinality-published : (q : Node) → NodeFormed q → Published g fs q
   cardinality-published q h r e = cardinality-formed q h r ∙ cardinality-noError (setCardinality g fs) (setRows g fs) q r e
 

@@ -24,6 +24,11 @@ pub countIf-split : (b : Bool) (n : ℕ) → n ≡ countIf b n + countIf (not b)
 countIf-split true n = omega arith
 countIf-split false n = omega arith
 
+-- and so by two, where the first passed
+pub countIf-and : (b d : Bool) (n : ℕ) → countIf b n ≡ countIf (b && d) n + countIf (b && not d) n
+countIf-and true d n = countIf-split d n
+countIf-and false d n = refl
+
 module _ {A : Type 0} where
   pub sumOver-add : (xs : List A) (f g : A → ℕ) → sumOver xs (λ x. f x + g x) ≡ sumOver xs f + sumOver xs g
   sumOver-add [] f g = refl
