@@ -65,6 +65,7 @@ fn by_hand(report: &mut Report) {
         ("a left join with nothing on its right", &w, "20 70 A N", 2),
         ("a left join with nothing on its left", &w, "20 70 N A", 0),
         ("a left join with one row on its right", &w, "20 70 A 00", 2),
+        ("a left join on a condition that errs, with as many rows", &w, "20 10 07 A 00", 2),
         ("a filter that keeps nothing", &w, "40 4070 A", 2),
         ("a bound that keeps nothing", &w, "60 7d0000 A", 2),
         ("project trust", &w, "5f A", 2),

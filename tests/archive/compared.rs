@@ -17,7 +17,7 @@ pub struct Compared {
 
 impl Compared {
     /// Evaluates a query and its rewriting, both by the calls, in row spaces of one length with different old contents and
-    /// with different tallies.
+    /// with different tallies. Answers whether both have rows, and the same.
     pub fn test(
         &mut self,
         report: &mut Report,
@@ -25,11 +25,11 @@ impl Compared {
         what: &str,
         (table, query): (&[u8], &[u8]),
         words: usize,
-    ) {
+    ) -> bool {
         let mut output = [0; MOST_RESULT];
         let rewritten = ffi::rewrite(query, &mut output);
         if rewritten.refusal != NONE {
-            return;
+            return false;
         }
         let rewriting = &output[..rewritten.length as usize];
         let [(one, one_space), (other, other_space)] = [query, rewriting].map(|query| {
@@ -55,6 +55,7 @@ impl Compared {
             format!("{what}: eval {} {} {words} {rewriting}", hex(table), hex(query))
         });
         *self.numbers.entry((one.refusal.number, other.refusal.number)).or_default() += 1;
+        good && one.refusal == NONE && one.rows > 0
     }
 
     pub fn enough(&self, report: &mut Report) {

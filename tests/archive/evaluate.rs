@@ -1,6 +1,6 @@
 //! Tests `randwyler_evaluate` of the built archive: vectors, rows by hand, an independent evaluation (rows.rs) in row spaces
-//! of awkward lengths, a query beside its rewriting, limits, joins with many rows, and the stack it needs. The last line is
-//! 'N passed, M failed'.
+//! of awkward lengths, a query beside its rewriting, left joins whose condition errs, limits, joins with many rows, and the stack it
+//! needs. The last line is 'N passed, M failed'.
 
 mod chains;
 mod compared;
@@ -8,10 +8,15 @@ mod conditions;
 mod fence;
 mod ffi;
 mod inputs;
+mod kinds;
+mod known_errors;
 mod known_rows;
+mod left_joins;
+mod left_rows;
 mod limits;
 mod many_rows;
 mod paper;
+mod printed;
 mod push;
 mod queries;
 mod random;
@@ -26,41 +31,58 @@ mod vectors;
 
 use compared::Compared;
 use conditions::{CONDITION_KINDS, TRUTHS};
+use kinds::Kinds;
 use limits::{AtLimit, NullInput, TableAtLimit};
 use paper::{Evaluated, Refusal, Tally, CHECK_LIMIT, MOST_RECORDS, NONE};
 use queries::{Nested, KINDS};
 use random::Random;
 use report::{hex, Report};
-use rows::{Outcome, Seen, LEFT_ROWS, MOST_ROWS, ROW_WORDS};
+use rows::{Evaluation, Outcome, Seen, MOST_ROWS, ROW_WORDS};
 use spaces::Spaces;
 use stack::Deepest;
+use vectors::Vector;
 
-const RANDOM_CASES: usize = 105_000;
+const RANDOM_CASES: usize = 120_000;
+/// One random case in so many is a left join made to err.
+const LEFT_JOINS: usize = 8;
 const PATTERN_SETS: usize = 102_000;
 /// Random cases are evaluated as far as so many rows of space, and left out if they take more steps.
 const MOST_SPACE: usize = 300;
 const MOST_STEPS: u64 = 10_000;
 
+/// Files of vectors, and the call in each: the second has the rule of request 3, from the first the lines that it changes are gone.
+const VECTORS: [(&str, &str, &str); 2] = [
+    ("base.txt", "eval", include_str!("../vectors/base.txt")),
+    ("03-errors.txt", "eval11", include_str!("../vectors/03-errors.txt")),
+];
+
 /// A vector is `TABLE QUERY WORDS => NUMBER PLACE ROWS PEAK PAIRS WRITTEN`; the zeros behind the rows are left out.
+fn test_vector(report: &mut Report, spaces: &mut Spaces, what: &str, vector: &Vector) {
+    let [table, query] = [0, 1].map(|i| vectors::bytes(&vector.inputs[i]));
+    let words = vectors::number(&vector.inputs[2]) as usize;
+    let [number, place, rows, peak, pairs] = [0, 1, 2, 3, 4].map(|i| vectors::number(&vector.answer[i]));
+    let outcome = rows::evaluate(&table, &query);
+    let tally = Tally { answered: u32::from(number == 0), refused: u32::from(number != 0) };
+    let refusal = Refusal { number: number as u32, place };
+    let expected = Evaluated { refusal, rows: rows as u32, peak: peak as u32, pairs, tally };
+    let after = (number == 0 || number == 8).then(|| {
+        let mut space = vectors::words(&vector.answer[5]);
+        space.resize(words, 0);
+        space
+    });
+    let agrees = outcome.answer(words, Tally { answered: 0, refused: 0 }) == (expected, after);
+    report.case(agrees, || format!("{what}: rows.rs differs"));
+    spaces.test(report, what, (&table, &query), &outcome, words);
+}
+
 fn vectors(report: &mut Report) {
     let mut spaces = Spaces::new(3);
-    for vector in vectors::of("eval", include_str!("../vectors/base.txt")) {
-        let [table, query] = [0, 1].map(|i| vectors::bytes(&vector.inputs[i]));
-        let words = vectors::number(&vector.inputs[2]) as usize;
-        let [number, place, rows, peak, pairs] = [0, 1, 2, 3, 4].map(|i| vectors::number(&vector.answer[i]));
-        let what = format!("line {} of base.txt", vector.line);
-        let outcome = rows::evaluate(&table, &query);
-        let tally = Tally { answered: u32::from(number == 0), refused: u32::from(number != 0) };
-        let refusal = Refusal { number: number as u32, place };
-        let expected = Evaluated { refusal, rows: rows as u32, peak: peak as u32, pairs, tally };
-        let after = (number == 0 || number == 8).then(|| {
-            let mut space = vectors::words(&vector.answer[5]);
-            space.resize(words, 0);
-            space
-        });
-        let agrees = outcome.answer(words, Tally { answered: 0, refused: 0 }) == (expected, after);
-        report.case(agrees, || format!("{what}: rows.rs differs"));
-        spaces.test(report, &what, (&table, &query), &outcome, words);
+    for (file, call, text) in VECTORS {
+        let all = vectors::of(call, text);
+        report.case(!all.is_empty(), || format!("{file} has no vectors"));
+        for vector in all {
+            test_vector(report, &mut spaces, &format!("line {} of {file}", vector.line), &vector);
+        }
     }
 }
 
@@ -149,15 +171,70 @@ fn many_pairs(report: &mut Report) {
 
 // ---- Random cases
 
+/// What random cases came to.
+#[derive(Default)]
+struct Met {
+    /// Of answers.
+    seen: Seen,
+    /// Of answers with rows.
+    nested: Nested,
+    numbers: [u64; 9],
+    with_rows: u64,
+    kinds: Kinds,
+}
+
+impl Met {
+    /// Counts a case; `alike` says whether it and its rewriting have rows, and the same.
+    fn count(&mut self, outcome: &Outcome, seen: &Seen, nested: &Nested, alike: bool, ceiling: u32) {
+        let Evaluation { rows, .. } = match outcome {
+            Outcome::Refused(refused) => return self.numbers[refused.number as usize] += 1,
+            Outcome::Above(_) => return self.numbers[8] += 1,
+            Outcome::Rows(evaluation) => evaluation,
+        };
+        self.numbers[0] += 1;
+        self.seen.add(seen);
+        if !rows.is_empty() {
+            self.with_rows += 1;
+            self.nested.iter_mut().flatten().zip(nested.iter().flatten()).for_each(|(sum, count)| *sum += count);
+        }
+        let kept = seen.error_kept() && !rows.is_empty();
+        let at_ceiling = rows.len() == ceiling as usize;
+        self.kinds.count(&[
+            ("rows, and a left row kept on an error", 8_000, kept),
+            ("rows, and an error beside a true", 1_000, seen.error_beside_true() && !rows.is_empty()),
+            ("a left row kept on an error, and as many rows as the ceiling", 500, kept && at_ceiling),
+            (
+                "a left row kept on an error under an ensure trust, and a rewriting alike",
+                2_500,
+                alike && seen.error_ensured(),
+            ),
+        ]);
+    }
+
+    fn enough(&self, report: &mut Report) {
+        let Met { seen, nested, numbers, with_rows, kinds } = self;
+        println!("random cases with rows: {with_rows}; above {MOST_SPACE} rows of space: {}", numbers[8]);
+        println!("random cases by number: {numbers:?}");
+        for number in [0, 1, 3, 4, 6, 7, 8] {
+            report.case(numbers[number] > 0, || format!("no random case has number {number}"));
+        }
+        report.case(*with_rows > RANDOM_CASES as u64 / 3, || "too few random cases have rows".to_string());
+        queries::all_nested(report, nested, 100);
+        all_truths(report, seen);
+        left_rows::enough(report, seen, "random cases", 1_000);
+        kinds.enough(report, "random cases");
+    }
+}
+
 fn random_cases(report: &mut Report) {
     let (mut random, mut spaces) = (Random::new(6), Spaces::new(7));
-    let (mut seen, mut compared) = (Seen::default(), Compared::default());
-    // Of answers with rows only.
-    let mut nested: Nested = [[0; KINDS]; KINDS];
-    let (mut numbers, mut with_rows, mut left_out) = ([0u64; 9], 0u64, 0);
+    let (mut met, mut compared, mut left_out) = (Met::default(), Compared::default(), 0);
     for number in 0..RANDOM_CASES {
-        let mut nested_here = [[0; KINDS]; KINDS];
-        let (table, query) = inputs::narrow(&mut random, &mut nested_here);
+        let (mut seen, mut nested) = (Seen::default(), [[0; KINDS]; KINDS]);
+        let (table, query) = match number % LEFT_JOINS {
+            0 => left_joins::inputs(&mut random),
+            _ => inputs::narrow(&mut random, &mut nested),
+        };
         let Some(outcome) = rows::evaluate_within(&table, &query, MOST_SPACE, MOST_STEPS, &mut seen) else {
             left_out += 1;
             continue;
@@ -167,47 +244,28 @@ fn random_cases(report: &mut Report) {
         for words in [lengths[0], lengths[1], random.pick(&lengths[2..])] {
             spaces.test(report, &what, (&table, &query), &outcome, words);
         }
-        for words in &lengths[..2] {
-            compared.test(report, &mut spaces, &what, (&table, &query), *words);
+        let [_, alike] =
+            [lengths[0], lengths[1]].map(|words| compared.test(report, &mut spaces, &what, (&table, &query), words));
+        let ceiling = ffi::ceiling(&table, &query);
+        if let Outcome::Rows(evaluation) = &outcome {
+            let holds = ceiling.refusal == NONE && ceiling.ceiling as usize >= evaluation.rows.len();
+            report.case(holds, || format!("{what}: more rows than the ceiling {ceiling} of {}", hex(&query)));
         }
-        match &outcome {
-            Outcome::Refused(refused) => numbers[refused.number as usize] += 1,
-            Outcome::Above(_) => numbers[8] += 1,
-            Outcome::Rows(evaluation) => {
-                numbers[0] += 1;
-                let ceiling = ffi::ceiling(&table, &query);
-                let holds = ceiling.refusal == NONE && ceiling.ceiling as usize >= evaluation.rows.len();
-                report.case(holds, || format!("{what}: more rows than the ceiling {ceiling} of {}", hex(&query)));
-                if !evaluation.rows.is_empty() {
-                    with_rows += 1;
-                    nested.iter_mut().flatten().zip(nested_here.iter().flatten()).for_each(|(sum, count)| *sum += count);
-                }
-            }
-        }
+        met.count(&outcome, &seen, &nested, alike, ceiling.ceiling);
     }
-    println!("random cases with rows: {with_rows}; above {MOST_SPACE} rows of space: {}; left out: {left_out}", numbers[8]);
-    println!("random cases by number: {numbers:?}");
-    for number in [0, 1, 3, 4, 6, 7, 8] {
-        report.case(numbers[number] > 0, || format!("no random case has number {number}"));
-    }
-    report.case(with_rows > RANDOM_CASES as u64 / 3, || "too few random cases have rows".to_string());
+    println!("random cases left out: {left_out}");
     report.case(left_out < RANDOM_CASES / 20, || "too many random cases are left out".to_string());
-    queries::all_nested(report, &nested, 100);
-    all_seen(report, &seen);
+    met.enough(report);
     compared.enough(report);
 }
 
-/// Conditions must have had each truth, and left rows of left joins each outcome, if there is such a case.
-fn all_seen(report: &mut Report, seen: &Seen) {
+/// Conditions must have had each truth, if there is such a case.
+fn all_truths(report: &mut Report, seen: &Seen) {
     for (kind, counts) in CONDITION_KINDS.iter().zip(seen.truths) {
         for (truth, count) in TRUTHS.iter().zip(counts) {
             let never = *kind == "true" && *truth != Some(true) || *kind == "bound" && truth.is_none();
             report.case(never || count >= 500, || format!("{kind} was {truth:?} only {count} times"));
         }
-    }
-    for (outcome, count) in LEFT_ROWS.iter().zip(seen.left_rows) {
-        println!("left rows of left joins that were {outcome}: {count}");
-        report.case(count >= 1_000, || format!("only {count} left rows were {outcome}"));
     }
 }
 
@@ -278,6 +336,14 @@ fn parts(report: &mut Report) {
     known_rows::left_joins(report);
     known_rows::other_nodes(report);
     report.part("rows by hand");
+    known_errors::conditions(report);
+    known_errors::trusts(report);
+    known_errors::repeated(report);
+    known_errors::nested(report);
+    known_errors::rewritings(report);
+    known_errors::words(report);
+    known_errors::in_every_order(report);
+    report.part("left joins whose condition errs, by hand");
     small_rows::truths(report);
     small_rows::all_small(report);
     report.part("conditions");

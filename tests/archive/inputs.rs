@@ -17,7 +17,7 @@ pub fn wide(random: &mut Random, nested: &mut Nested) -> (Vec<u8>, Vec<u8>) {
 }
 
 /// So many terms, mostly different; half of the time they are the least.
-fn few_terms(random: &mut Random, count: usize) -> Vec<u32> {
+pub fn few_terms(random: &mut Random, count: usize) -> Vec<u32> {
     const TERMS: [u32; 10] = [1, 2, 15, 16, 255, 4_096, 65_535, 65_536, 0x80000, 0xFFFFF];
     if random.once_in(2) {
         return (1..=count as u32).collect();
@@ -50,18 +50,31 @@ pub fn pattern_set(random: &mut Random) -> (Vec<u8>, Vec<u8>) {
     (table, queries::pattern_set(random, &MANY_PATTERNS.with_terms(&terms)))
 }
 
+/// A slot of a term.
+pub fn of_term(term: u32) -> [u8; 3] {
+    let [_, slot @ ..] = term.to_be_bytes();
+    slot
+}
+
 /// A slot of one of the variables 0 to 3, or of a term.
 fn slot(random: &mut Random, terms: &[u32]) -> [u8; 3] {
     if random.below(3) > 0 {
         return [0x10, 0, random.below(4) as u8];
     }
-    let [_, term @ ..] = random.pick(terms).to_be_bytes();
-    term
+    of_term(random.pick(terms))
 }
 
 /// A set of one pattern.
-fn one_pattern(random: &mut Random, terms: &[u32]) -> Vec<u8> {
+pub fn one_pattern(random: &mut Random, terms: &[u32]) -> Vec<u8> {
     [&[0x01][..], &slot(random, terms), &slot(random, terms), &slot(random, terms)].concat()
+}
+
+/// A condition for a left join: true, or whether two of the variables 0 to 3 are the same, which errs where one is free.
+fn condition(random: &mut Random) -> Vec<u8> {
+    if random.once_in(2) {
+        return vec![0x70];
+    }
+    vec![0x10 | random.below(4) as u8, random.below(4) as u8]
 }
 
 /// A small table, and the union of some sets and left joins about it, some under a project trust: a variable is set in some rows
@@ -80,7 +93,8 @@ pub fn unions(random: &mut Random) -> (Vec<u8>, Vec<u8>) {
             query.push(0x50 | 3 + operand);
         }
         if random.once_in(3) {
-            query.extend([0x20, 0x70]);
+            query.push(0x20);
+            query.extend(condition(random));
             query.extend(one_pattern(random, &terms));
         }
         query.extend(one_pattern(random, &terms));

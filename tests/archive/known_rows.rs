@@ -1,6 +1,7 @@
 //! Evaluations whose rows, peak and pairs are written down by hand.
 
-use crate::paper::refusal;
+use crate::ffi;
+use crate::paper::{refusal, NONE};
 use crate::report::Report;
 use crate::rows::{self, Evaluation, Outcome, Row, Trust, Value};
 use crate::spaces::Spaces;
@@ -13,25 +14,28 @@ fn terms(trust: Trust, terms: &[(u32, u32)]) -> Row {
 }
 
 /// A table, and what the tests of queries on it found.
-struct Store<'a> {
-    table: Vec<u8>,
+pub struct Store<'a> {
+    pub table: Vec<u8>,
     spaces: Spaces,
-    report: &'a mut Report,
+    pub report: &'a mut Report,
 }
 
 impl Store<'_> {
-    fn new(table: Vec<u8>, report: &mut Report) -> Store<'_> {
+    pub fn new(table: Vec<u8>, report: &mut Report) -> Store<'_> {
         Store { table, spaces: Spaces::new(1), report }
     }
 
-    /// Tests a query in row spaces of all awkward lengths.
-    fn test(&mut self, what: &str, query: &str, rows: &[Row], peak: usize, pairs: u64) {
+    /// Tests a query in row spaces of all awkward lengths, and that its ceiling bounds its rows.
+    pub fn test(&mut self, what: &str, query: &str, rows: &[Row], peak: usize, pairs: u64) {
         let query = vectors::query(query);
         let read = rows::evaluate(&self.table, &query);
         let expected = Evaluation { rows: rows.to_vec(), space: peak, pairs };
         let agrees = matches!(&read, Outcome::Rows(read) if *read == expected);
         self.report.case(agrees, || format!("{what}: rows.rs has {read:?}"));
         self.spaces.test_lengths(self.report, what, (&self.table, &query), &Outcome::Rows(expected));
+        let ceiling = ffi::ceiling(&self.table, &query);
+        let holds = ceiling.refusal == NONE && ceiling.ceiling as usize >= rows.len();
+        self.report.case(holds, || format!("{what}: {} rows, and the ceiling {ceiling}", rows.len()));
     }
 
     fn test_refused(&mut self, what: &str, query: &str, number: u32, place: usize) {
@@ -79,11 +83,11 @@ pub fn left_joins(report: &mut Report) {
         ("true, false", "21 000005", &[&five, &two]),
         ("false, true", "21 000006", &[&six, &two]),
         ("false on both", "21 000009", &[&one, &two]),
-        ("an error on both", "10 07", &[&two]),
+        ("an error on both", "10 07", &[&one, &two]),
         ("true, an error", "60 21 000005 10 07", &[&five, &two]),
         ("an error, true", "60 21 000006 10 07", &[&six, &two]),
-        ("an error, false", "50 21 000005 10 07", &[&two]),
-        ("false, an error", "50 21 000006 10 07", &[&two]),
+        ("an error, false", "50 21 000005 10 07", &[&one, &two]),
+        ("false, an error", "50 21 000006 10 07", &[&one, &two]),
         ("true of the left row, false of its merges", "40 01", &[&one, &two]),
     ] {
         let rows: Vec<Row> = rows.iter().map(|row| (*row).clone()).collect();

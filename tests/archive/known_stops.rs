@@ -2,8 +2,9 @@
 
 use crate::ceilings;
 use crate::paper::{Ceiling, NONE};
+use crate::printed;
 use crate::report::Report;
-use crate::rows::{self, Evaluation, Outcome, Row, Trust, Value};
+use crate::rows::{self, Evaluation, Outcome, Row, Trust};
 use crate::spaces::{self, Spaces};
 use crate::subjects::LAST_TERM;
 use crate::tables;
@@ -51,24 +52,6 @@ impl Store<'_> {
         let what = format!("{what}: {patterns}");
         self.test(&what, &set(patterns), Evaluation { space: rows.len(), rows, pairs: 0 }, ceiling);
     }
-}
-
-/// A row as `strikes` prints it.
-fn row(text: &str) -> Row {
-    let (trust, values) = text.split_once(' ').unwrap_or((text, ""));
-    let value = |text: &str| match text.strip_prefix('t') {
-        Some(trust) => Value::Trust(trust.parse().ok()),
-        None => Value::Term(vectors::number(text) as u32),
-    };
-    let cell = |text: &str| {
-        let (variable, term) = text.split_once('=').expect("?v=value");
-        (vectors::number(&variable[1..]) as u32, value(term))
-    };
-    Row { values: values.split_terminator(' ').map(cell).collect(), trust: trust.parse().ok() }
-}
-
-fn rows_of(texts: &[&str]) -> Vec<Row> {
-    texts.iter().map(|text| row(text)).collect()
 }
 
 /// Subjects are 2, 4, 6 and 8. Objects are these, and 1, 3 and 9.
@@ -230,7 +213,7 @@ pub fn sets(report: &mut Report) {
         ("a free subject", &FREE),
     ] {
         for (what, patterns, rows, ceiling) in known {
-            store.test_set(&format!("{sort}, {what}"), patterns, rows_of(rows), *ceiling);
+            store.test_set(&format!("{sort}, {what}"), patterns, printed::rows(rows), *ceiling);
         }
     }
 }
@@ -246,7 +229,7 @@ pub fn greatest_term(report: &mut Report) {
         ("by a variable", "1048573 1 ?0, ?0 ?1 5", &["? ?0=1048575 ?1=1"], 1),
         ("three times", "?0 ?1 ?0, ?0 ?0 ?0", &["-1000 ?0=1048575 ?1=1048575"], 1),
     ] {
-        store.test_set(&format!("the greatest term, {what}"), patterns, rows_of(rows), ceiling);
+        store.test_set(&format!("the greatest term, {what}"), patterns, printed::rows(rows), ceiling);
     }
 }
 
@@ -280,7 +263,7 @@ pub fn other_nodes(report: &mut Report) {
         ("ensure trust", "E", &["4 ?0 ?1"], &["600 ?0=2 ?1=3", "500 ?0=4 ?1=4"], [3, 0, 3]),
     ] {
         let operands: Vec<String> = sets.iter().map(|patterns| set(patterns)).collect();
-        let evaluation = Evaluation { rows: rows_of(rows), space, pairs: pairs as u64 };
+        let evaluation = Evaluation { rows: printed::rows(rows), space, pairs: pairs as u64 };
         store.test(what, &format!("{node} {}", operands.join(" ")), evaluation, ceiling as u32);
     }
 }

@@ -124,6 +124,31 @@ pub fn trusts(report: &mut Report) {
     );
 }
 
+/// Left rows that stand though the condition errs on their merges: what is of the right operand is free in them, and their trusts
+/// are their own. ?7 is free.
+pub fn errors(report: &mut Report) {
+    let mut store = Store::new(tables::facts(&FACTS), report);
+    // Of the left row (1, 5) the one merge errs, (2, 5) has none.
+    store.test("an error, and no merge", "20 10 07 B A", 0, &[[1, 1, 1_300], [2, 1, 900]]);
+    store.test("an error, and no merge, in one group", "20 10 07 B A", 1, &[[5, 2, 900]]);
+    // Of the left row (1, free) the merges are (1, 5) and (1, 6).
+    store.test("two errors", &format!("20 10 07 A {C}"), 1, &[[0, 1, 600]]);
+    store.test("an error and false", &format!("20 50 21 000005 10 07 A {C}"), 1, &[[0, 1, 600]]);
+    store.test("false and an error", &format!("20 50 21 000006 10 07 A {C}"), 1, &[[0, 1, 600]]);
+    store.test("an error and true", &format!("20 60 21 000006 10 07 A {C}"), 1, &[[6, 1, UNKNOWN]]);
+    store.test("true and an error", &format!("20 60 21 000005 10 07 A {C}"), 1, &[[5, 1, 600]]);
+    // A free group of left rows before that of merges, and behind it.
+    let kept = format!("20 50 21 000006 10 07 A {C}");
+    store.test("a free group first, by an error", &format!("30 {kept} B"), 1, &[[0, 1, 600], [5, 2, 900]]);
+    store.test("a free group last, by an error", &format!("30 B {kept}"), 1, &[[5, 2, 900], [0, 1, 600]]);
+    store.test("one group, in part by an error", &format!("30 {kept} B"), 0, &[[1, 2, 600], [2, 1, 900]]);
+    store.test("a left row twice", "20 10 07 30 A A A", 0, &[[1, 2, 600]]);
+    // ?15 has the trusts of {?0 30 ?1}: of the left row 250 and then unknown.
+    let compared = |condition: &str| format!("20 {condition} A 5f {C}");
+    store.test("an unknown trust beside a true", &compared("1f 0f"), 15, &[[LEAST_TRUST + 1_250, 1, 600]]);
+    store.test("an unknown trust beside a false", &compared("3f 0f"), 15, &[[0, 1, 600]]);
+}
+
 /// One row, no row, and cells and trusts at their ends.
 pub fn few(report: &mut Report) {
     let last_term = 1_048_575;

@@ -4,10 +4,11 @@
 
 use crate::compared::Compared;
 use crate::conditions::Truth;
+use crate::left_rows;
 use crate::paper::{self, refusal, Kind, Node, Record, Slot, CHECK_LIMIT};
 use crate::random::Random;
 use crate::report::Report;
-use crate::rows::{self, Evaluation, Outcome, Row, Seen, Trust, Value, LEFT_ROWS, MOST_ROWS};
+use crate::rows::{self, Evaluation, Outcome, Row, Seen, Trust, Value, MOST_ROWS};
 use crate::spaces::{self, Spaces};
 use crate::tables;
 use crate::vectors::{self, set};
@@ -287,11 +288,11 @@ fn found_by_keys(left: &[Row], right: &[Row], keys: &[u32], condition: Option<fn
             listed.extend(merges);
             continue;
         };
-        let (merges, others): (Vec<Row>, Vec<Row>) = merges.partition(|merge| condition(merge) == Some(true));
-        if merges.is_empty() && others.iter().all(|merge| condition(merge) == Some(false)) {
+        let before = listed.len();
+        listed.extend(merges.filter(|merge| condition(merge) == Some(true)));
+        if listed.len() == before {
             listed.push(row.clone());
         }
-        listed.extend(merges);
     }
     listed
 }
@@ -415,7 +416,7 @@ impl Maker<'_> {
         if self.random.once_in(2) {
             join(&left, &right)
         } else {
-            left_join(&self.condition(1), &left, &right)
+            left_join(&self.condition(2), &left, &right)
         }
     }
 
@@ -427,18 +428,33 @@ impl Maker<'_> {
         match self.random.below(10) {
             0 | 1 => self.pattern_set(),
             2 | 3 => self.join(below),
-            4..7 => union(&self.node(below), &self.node(below)),
+            4..7 => {
+                let one = self.node(below);
+                // A variable can be projected once only.
+                let same = below == 0 && self.random.once_in(3);
+                let other = if same { one.clone() } else { self.node(below) };
+                union(&one, &other)
+            }
             // Or bound, so that rows remain.
             7 => format!("40 60 0{:x} {} {}", self.random.pick(&self.variables), self.condition(1), self.node(below)),
             8 if !self.to_project.is_empty() => {
                 let variable = self.to_project.pop().expect("one is left");
                 format!("5{variable:x} {}", self.node(below))
             }
-            _ => {
-                let (low, high) = (self.random.within(0, 900), self.random.within(1_500, 2_000));
-                format!("60 {low:03x}{high:03x} {}", self.node(below))
-            }
+            _ => format!("{} {}", self.bound(), self.node(below)),
         }
+    }
+
+    /// The head of an ensure trust.
+    fn bound(&mut self) -> String {
+        let (low, high) = (self.random.within(0, 900), self.random.within(1_500, 2_000));
+        format!("60 {low:03x}{high:03x}")
+    }
+
+    /// A join or left join, now and then under an ensure trust.
+    fn query(&mut self, depth: usize) -> String {
+        let above = if self.random.once_in(4) { self.bound() } else { String::new() };
+        format!("{above} {}", self.join(depth))
     }
 }
 
@@ -461,7 +477,7 @@ fn random_inputs(random: &mut Random) -> (Vec<u8>, Vec<u8>) {
     let to_project = variables.split_off(some - 2);
     let depth = random.within(1, 2);
     let mut maker = Maker { random, predicates, objects, variables, to_project, in_conditions };
-    (table, vectors::query(&maker.join(depth)))
+    (table, vectors::query(&maker.query(depth)))
 }
 
 /// Which variables can be keys of a join.
@@ -481,12 +497,14 @@ fn keys(left: &[Row], right: &[Row]) -> usize {
     }
 }
 
-/// The rows of a join's operands, evaluated alone; none if one has too many.
+/// The rows of a join's operands, evaluated alone; none if one has too many. The join may stand under an ensure trust.
 fn operands(table: &[u8], query: &[u8]) -> Option<[Vec<Row>; 2]> {
-    let Ok(Node { kind: Kind::Join(left, right) | Kind::LeftJoin(_, left, right), .. }) = paper::query(query, CHECK_LIMIT)
-    else {
-        panic!("not a join");
+    let node = match paper::query(query, CHECK_LIMIT) {
+        Ok(Node { kind: Kind::Ensure(_, _, operand), .. }) => *operand,
+        Ok(node) => node,
+        Err(_) => panic!("a query that is refused"),
     };
+    let (Kind::Join(left, right) | Kind::LeftJoin(_, left, right)) = node.kind else { panic!("not a join") };
     let rows_of = |query: &[u8]| match rows::evaluate_within(table, query, MOST_SPACE, MOST_STEPS, &mut Seen::default()) {
         Some(Outcome::Rows(evaluation)) => Some(evaluation.rows),
         _ => None,
@@ -501,7 +519,8 @@ pub fn random_cases(report: &mut Report) {
     let (mut many, mut many_with_rows, mut by_keys, mut above, mut left_out) = (0, 0, [0; KEYS.len()], 0, 0);
     for number in 0..RANDOM_CASES {
         let (table, query) = random_inputs(&mut random);
-        let Some(outcome) = rows::evaluate_within(&table, &query, MOST_SPACE, MOST_STEPS, &mut seen) else {
+        let mut here = Seen::default();
+        let Some(outcome) = rows::evaluate_within(&table, &query, MOST_SPACE, MOST_STEPS, &mut here) else {
             left_out += 1;
             continue;
         };
@@ -515,7 +534,10 @@ pub fn random_cases(report: &mut Report) {
         let Some([left, right]) = operands(&table, &query) else { continue };
         if (left.len() * right.len()) as u64 >= MANY_PAIRS {
             many += 1;
-            many_with_rows += u64::from(matches!(&outcome, Outcome::Rows(evaluation) if !evaluation.rows.is_empty()));
+            if let Outcome::Rows(evaluation) = &outcome {
+                many_with_rows += u64::from(!evaluation.rows.is_empty());
+                seen.add(&here);
+            }
             by_keys[keys(&left, &right)] += 1;
         }
     }
@@ -528,8 +550,5 @@ pub fn random_cases(report: &mut Report) {
         println!("random joins with many pairs by keys, {keys}: {count}");
         report.case(count >= 50, || format!("only {count} random joins with keys {keys}"));
     }
-    for (outcome, count) in LEFT_ROWS.iter().zip(seen.left_rows) {
-        println!("left rows of random left joins with many rows that were {outcome}: {count}");
-        report.case(count >= 1_000, || format!("only {count} left rows were {outcome}"));
-    }
+    left_rows::enough(report, &seen, "random joins with many pairs", 1_000);
 }

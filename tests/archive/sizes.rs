@@ -115,6 +115,8 @@ fn by_hand(report: &mut Report) {
     for (what, query, most, peak) in [
         ("case 1", "E 10 A B", 8, 6),
         ("case 3", "E 20 70 A B", 8, 7),
+        ("a left join on a condition that errs", "20 10 07 A B", 8, 6),
+        ("a left join on a condition that errs, at its bound", "20 10 07 A 00", 5, 5),
         ("a join with nothing, of ceiling 0", "10 A N", 2, 2),
         ("nothing joined", "10 N A", 2, 2),
         ("a union", "30 A S", 6, 6),

@@ -4,7 +4,7 @@ use crate::conditions::{Truth, TRUTHS};
 use crate::ffi;
 use crate::paper::{Tally, NONE};
 use crate::report::Report;
-use crate::rows::{self, Outcome, ROW_WORDS};
+use crate::rows::{self, Outcome, Seen, LEFT_ROWS, MOST_ROWS, ROW_WORDS};
 use crate::spaces::Spaces;
 use crate::tables;
 use crate::vectors;
@@ -113,16 +113,23 @@ pub fn all_small(report: &mut Report) {
     // The objects that go with trusts are ?2 and ?3.
     let term = |variable: u32| format!("30 00 01 000001 000001 10000{variable}");
     let trust = |variable: u32| format!("30 00 5{variable} 01 000001 000002 10000{}", variable + 2);
-    let mut spaces = Spaces::new(2);
+    let (mut spaces, mut seen) = (Spaces::new(2), Seen::default());
     for (x, y) in [(term(X), term(Y)), (term(X), trust(Y)), (trust(X), trust(Y))] {
         for condition in conditions() {
             for query in [format!("40 {condition} 10 {x} {y}"), format!("20 {condition} {x} {y}")] {
                 let bytes = vectors::query(&query);
-                let outcome = rows::evaluate(&table, &bytes);
+                let outcome =
+                    rows::evaluate_within(&table, &bytes, MOST_ROWS, u64::MAX, &mut seen).expect("no limit of steps");
                 let Outcome::Rows(evaluation) = &outcome else { panic!("{query} is refused") };
                 let words = evaluation.space * ROW_WORDS + 5;
                 spaces.test(report, &query, (&table, &bytes), &outcome, words);
             }
         }
+    }
+    for (outcome, count) in LEFT_ROWS.iter().zip(seen.left_rows) {
+        // No row of X has a variable of Y.
+        let never = *outcome == "kept, with no compatible row";
+        println!("left rows of few values, {outcome}: {count}");
+        report.case(never || count >= 500, || format!("only {count} left rows of few values, {outcome}"));
     }
 }

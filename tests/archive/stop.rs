@@ -9,6 +9,7 @@ mod ffi;
 mod kinds;
 mod known_stops;
 mod paper;
+mod printed;
 mod random;
 mod replaced;
 mod report;

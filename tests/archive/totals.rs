@@ -10,6 +10,7 @@ mod groups;
 mod inputs;
 mod kinds;
 mod known_totals;
+mod left_joins;
 mod limits;
 mod many_groups;
 mod outputs;
@@ -108,6 +109,7 @@ fn random_inputs(random: &mut Random, large: &[u8]) -> (Vec<u8>, Vec<u8>) {
         1 => (table, limits::unions(CHECK_LIMIT + random.within(1, 9))),
         2..200 => inputs::wide(random, &mut nested),
         200..900 => inputs::unions(random),
+        900..1_100 => left_joins::inputs(random),
         _ => (table, query),
     }
 }
@@ -164,6 +166,18 @@ fn kinds_of_lengths(totals: &Totals, [words, room]: [usize; 2]) -> [Kind; 10] {
     ]
 }
 
+/// The kinds by the left rows of left joins; none where a call is refused or there is no group.
+fn kinds_of_left_rows(totals: &Totals, answered: bool, left_rows: &rows::Seen) -> [Kind; 3] {
+    let grouped = answered && !totals.groups.is_empty();
+    let kept = grouped && left_rows.error_kept();
+    let free = totals.groups.len() > 1 && totals.groups.iter().any(|group| group.cell.is_none());
+    [
+        ("a left row kept on an error", 12_000, kept),
+        ("a left row kept on an error, and a free group and others", 4_000, kept && free),
+        ("a left row with an error beside a true", 500, grouped && left_rows.error_beside_true()),
+    ]
+}
+
 /// How often random calls came to each kind, and to each number.
 #[derive(Default)]
 struct Seen {
@@ -172,11 +186,12 @@ struct Seen {
 }
 
 impl Seen {
-    fn count(&mut self, totals: &Totals, lengths: [usize; 2]) {
+    fn count(&mut self, totals: &Totals, left_rows: &rows::Seen, lengths: [usize; 2]) {
         let number = totals.refusal(lengths).number;
         self.numbers[number as usize] += 1;
         self.kinds.count(&kinds_of_groups(totals, number == 0));
         self.kinds.count(&kinds_of_lengths(totals, lengths));
+        self.kinds.count(&kinds_of_left_rows(totals, number == 0, left_rows));
     }
 
     fn enough(&self, report: &mut Report) {
@@ -195,8 +210,8 @@ fn random_cases(report: &mut Report) {
     let (mut seen, mut left_out) = (Seen::default(), 0);
     for number in 0..RANDOM_CASES {
         let (table, query) = random_inputs(&mut random, &large);
-        let evaluated = rows::evaluate_within(&table, &query, MOST_SPACE, MOST_STEPS, &mut rows::Seen::default());
-        let Some(outcome) = evaluated else {
+        let mut left_rows = rows::Seen::default();
+        let Some(outcome) = rows::evaluate_within(&table, &query, MOST_SPACE, MOST_STEPS, &mut left_rows) else {
             left_out += 1;
             continue;
         };
@@ -212,7 +227,7 @@ fn random_cases(report: &mut Report) {
             [random.pick(&spaces), random.pick(&rooms)],
         ] {
             outputs.test(report, &what, (&table, &query), &totals, lengths);
-            seen.count(&totals, lengths);
+            seen.count(&totals, &left_rows, lengths);
         }
         if totals.variable < VARIABLES {
             let lengths = [random.pick(&spaces[..2]), random.pick(&rooms)];
@@ -289,6 +304,7 @@ fn parts(report: &mut Report) {
     known_totals::terms(report);
     known_totals::records(report);
     known_totals::trusts(report);
+    known_totals::errors(report);
     known_totals::few(report);
     report.part("entries by hand");
     refused_totals::first(report);

@@ -12,6 +12,10 @@ mod fence;
 mod ffi;
 #[path = "../archive/inputs.rs"]
 mod inputs;
+#[path = "../archive/left_joins.rs"]
+mod left_joins;
+#[path = "../archive/left_rows.rs"]
+mod left_rows;
 #[path = "../archive/many_rows.rs"]
 mod many_rows;
 #[path = "../archive/paper.rs"]
@@ -36,7 +40,7 @@ mod vectors;
 use queries::KINDS;
 use random::Random;
 use report::Report;
-use rows::{Seen, LEFT_ROWS};
+use rows::Seen;
 use spaces::Spaces;
 
 const CASES: usize = 20_000;
@@ -49,6 +53,7 @@ fn main() {
     for number in 0..CASES {
         let (table, query) = match number % 4 {
             0 => inputs::pattern_set(&mut random),
+            1 => left_joins::inputs(&mut random),
             _ => inputs::narrow(&mut random, &mut [[0; KINDS]; KINDS]),
         };
         let Some(outcome) = rows::evaluate_within(&table, &query, MOST_SPACE, MOST_STEPS, &mut seen) else { continue };
@@ -57,9 +62,7 @@ fn main() {
             spaces.test(&mut report, &format!("case {number}"), (&table, &query), &outcome, words);
         }
     }
-    for (outcome, count) in LEFT_ROWS.iter().zip(seen.left_rows) {
-        report.case(count >= 1_000, || format!("only {count} left rows were {outcome}"));
-    }
+    left_rows::enough(&mut report, &seen, "random cases", 1_000);
     // The right rows of large joins are chained here too.
     many_rows::one_bucket(&mut report);
     many_rows::set_in_some(&mut report);

@@ -90,6 +90,17 @@ rows 8 peak 8 pairs 0
     }
 }
 
+/// Left joins whose condition errs, by request 3. ?2 is free, so that ?1 = ?2 errs on both merges of the first row of A.
+pub fn errors(program: &Program, report: &mut Report) {
+    let mut texts = Texts { program, report };
+    let kept = "rows 2 peak 6 pairs 4\n800 ?0=1\n? ?0=2\n";
+    texts.on_w("an error on every merge", "20 11 02 A B", kept);
+    texts.on_w("an error and false", "20 50 21 00000b 11 02 A B", kept);
+    texts.on_w("an error and true", "20 60 21 00000c 11 02 A B", "rows 2 peak 6 pairs 4\n200 ?0=1 ?1=12\n? ?0=2\n");
+    texts.on_w("an error under a floor", "E 20 11 02 A B", "rows 1 peak 6 pairs 4\n800 ?0=1\n");
+    texts.on_w("an error under a floor, rewritten", "E 20 11 02 E A B", "rows 1 peak 4 pairs 2\n800 ?0=1\n");
+}
+
 /// Each refusal, and which comes first where several apply.
 pub fn refusals(program: &Program, report: &mut Report) {
     let mut texts = Texts { program, report };

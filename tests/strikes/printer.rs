@@ -28,7 +28,7 @@ fn line(row: &Row) -> String {
 /// What a run of the program comes to.
 pub enum Run {
     Refused(Refusal),
-    Answered { rows: Vec<Row>, peak: usize, pairs: u64 },
+    Answered { rows: Vec<Row>, peak: usize, pairs: u64, left_rows: Seen },
 }
 
 /// The run on these bytes, where an absent file has none; none if it takes over `steps` steps.
@@ -36,11 +36,12 @@ pub fn run(facts: &[u8], query: &[u8], steps: u64) -> Option<Run> {
     if facts.len() > MOST_FACTS {
         return Some(Run::Refused(refusal(2, 0)));
     }
-    let outcome = rows::evaluate_within(facts, query, CAPACITY, steps, &mut Seen::default())?;
+    let mut left_rows = Seen::default();
+    let outcome = rows::evaluate_within(facts, query, CAPACITY, steps, &mut left_rows)?;
     let refused = outcome.refusal(CAPACITY * ROW_WORDS);
     Some(match outcome {
         Outcome::Rows(evaluation) if refused == NONE => {
-            Run::Answered { rows: evaluation.rows, peak: evaluation.space, pairs: evaluation.pairs }
+            Run::Answered { rows: evaluation.rows, peak: evaluation.space, pairs: evaluation.pairs, left_rows }
         }
         _ => Run::Refused(refused),
     })
@@ -50,7 +51,7 @@ impl Run {
     pub fn text(&self) -> String {
         match self {
             Run::Refused(Refusal { number, place }) => format!("refused {number} at {place}\n"),
-            Run::Answered { rows, peak, pairs } => {
+            Run::Answered { rows, peak, pairs, .. } => {
                 let lines: String = rows.iter().map(line).collect();
                 format!("rows {} peak {peak} pairs {pairs}\n{lines}", rows.len())
             }

@@ -133,6 +133,9 @@ const FILES: [&str; 7] = [
     "query file too long, refused for the facts",
 ];
 
+/// Of the evaluation.
+const KEPT: &str = "answered with rows, a left row kept on an error";
+
 /// What can be seen of rows.
 const ROWS: [&str; 11] = [
     "row trust from 0 on",
@@ -199,8 +202,9 @@ impl Kinds {
         self.of_files(files, run);
         match run {
             Run::Refused(refused) => self.add(format!("refused {}", refused.number), true),
-            Run::Answered { rows, pairs, .. } => {
+            Run::Answered { rows, pairs, left_rows, .. } => {
                 self.add("more than 65,535 pairs", *pairs > 65_535);
+                self.add(KEPT, left_rows.error_kept() && !rows.is_empty());
                 self.add(if rows.is_empty() { "answered without rows" } else { "answered with rows" }, true);
                 self.of_rows(rows);
             }
@@ -209,7 +213,7 @@ impl Kinds {
 
     /// Prints how often each kind came, and counts a case for each: it came often enough.
     fn enough(&self, report: &mut Report) {
-        let answers = ["answered with rows", "answered without rows", "more than 65,535 pairs"].map(str::to_string);
+        let answers = ["answered with rows", "answered without rows", "more than 65,535 pairs", KEPT].map(str::to_string);
         let refusals = (1..=8).map(|number| format!("refused {number}"));
         let others = FILES.iter().chain(&ROWS).map(|kind| kind.to_string());
         for kind in answers.into_iter().chain(refusals).chain(others) {
@@ -253,6 +257,7 @@ fn run() -> i32 {
     known_texts::cases_of_document(&program, &mut report);
     known_texts::absent_files(&program, &mut report);
     known_texts::values(&program, &mut report);
+    known_texts::errors(&program, &mut report);
     known_texts::refusals(&program, &mut report);
     known_texts::facts_limit(&program, &mut report);
     known_texts::query_limit(&program, &mut report);

@@ -13,6 +13,8 @@ mod ffi;
 mod groups;
 #[path = "../archive/inputs.rs"]
 mod inputs;
+#[path = "../archive/left_joins.rs"]
+mod left_joins;
 #[path = "../archive/outputs.rs"]
 mod outputs;
 #[path = "../archive/paper.rs"]
@@ -46,8 +48,8 @@ const MOST_STEPS: u64 = 1_000;
 const BEHIND: usize = 8;
 const TALLY: Tally = Tally { answered: 4, refused: u32::MAX };
 
-/// All calls with one table and one query.
-fn test(report: &mut Report, random: &mut Random, what: &str, table: &[u8], query: &[u8]) {
+/// All calls with one table and one query; answers whether a left row of a left join was kept on an error.
+fn test(report: &mut Report, random: &mut Random, what: &str, table: &[u8], query: &[u8]) -> bool {
     report.check(what, table, query, paper::check(table, query), ffi::check(table, query));
     report.ceiling(what, table, query, ceilings::ceiling(table, query), ffi::ceiling(table, query));
     let pushed = push::rewriting(query, &mut push::Seen::default());
@@ -63,7 +65,8 @@ fn test(report: &mut Report, random: &mut Random, what: &str, table: &[u8], quer
             report.case(right, || format!("{what}: wrong bytes after rewrite {} {room}", report::hex(query)));
         }
     }
-    let Some(outcome) = rows::evaluate_within(table, query, MOST_SPACE, MOST_STEPS, &mut Seen::default()) else { return };
+    let mut seen = Seen::default();
+    let Some(outcome) = rows::evaluate_within(table, query, MOST_SPACE, MOST_STEPS, &mut seen) else { return false };
     let lengths = spaces::lengths(&outcome);
     for words in [lengths[0], lengths[1], random.pick(&lengths)] {
         let (expected, after) = outcome.answer(words, TALLY);
@@ -75,6 +78,7 @@ fn test(report: &mut Report, random: &mut Random, what: &str, table: &[u8], quer
         }
     }
     test_totals(report, random, what, (table, query), &outcome);
+    seen.error_kept()
 }
 
 /// Totals of a variable. An output with nothing written in it shows what an answer depends on, one with noise what is written.
@@ -98,14 +102,18 @@ fn test_totals(report: &mut Report, random: &mut Random, what: &str, inputs: (&[
 
 fn main() {
     let (mut report, mut random) = (Report::default(), Random::new(1));
+    let mut errors = 0;
     for number in 0..CASES {
-        let (table, query) = match number % 4 {
-            0 => inputs::unions(&mut random),
+        let (table, query) = match number % 8 {
+            0 | 4 => inputs::unions(&mut random),
+            1 => left_joins::inputs(&mut random),
             _ => inputs::narrow(&mut random, &mut [[0; KINDS]; KINDS]),
         };
         // A boxed slice has no room behind its end.
         let (table, query) = (table.into_boxed_slice(), query.into_boxed_slice());
-        test(&mut report, &mut random, &format!("case {number}"), &table, &query);
+        errors += u64::from(test(&mut report, &mut random, &format!("case {number}"), &table, &query));
     }
+    println!("cases with a left row kept on an error: {errors}");
+    report.case(errors >= 50, || format!("only {errors} cases with a left row kept on an error"));
     std::process::exit(report.finish());
 }
