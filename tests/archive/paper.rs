@@ -148,6 +148,21 @@ pub enum Kind {
     Ensure(u32, u32, Box<Node>),
 }
 
+impl Kind {
+    /// As in the first byte of a node.
+    pub fn number(&self) -> usize {
+        match self {
+            Kind::Patterns(_) => 0,
+            Kind::Join(..) => 1,
+            Kind::LeftJoin(..) => 2,
+            Kind::Union(..) => 3,
+            Kind::Filter(..) => 4,
+            Kind::Project(..) => 5,
+            Kind::Ensure(..) => 6,
+        }
+    }
+}
+
 /// A fault is the place of the innermost piece that has it: a node, a condition, a pattern.
 type Read<T> = Result<T, usize>;
 

@@ -32,18 +32,6 @@ fn under(bound: Option<Bound>) -> usize {
     }
 }
 
-fn number_of(kind: &Kind) -> usize {
-    match kind {
-        Kind::Patterns(_) => 0,
-        Kind::Join(..) => 1,
-        Kind::LeftJoin(..) => 2,
-        Kind::Union(..) => 3,
-        Kind::Filter(..) => 4,
-        Kind::Project(..) => 5,
-        Kind::Ensure(..) => 6,
-    }
-}
-
 /// The kind as a node; in ensure trust if there is a bound.
 fn wrapped(bound: Option<Bound>, place: usize, kind: Kind) -> Node {
     let node = Node { place, kind };
@@ -55,7 +43,7 @@ fn wrapped(bound: Option<Bound>, place: usize, kind: Kind) -> Node {
 
 fn push(node: Node, bound: Option<Bound>, seen: &mut Seen) -> Node {
     let Node { place, kind } = node;
-    seen[number_of(&kind)][under(bound)] += 1;
+    seen[kind.number()][under(bound)] += 1;
     // What the operands of a join and the left operand of a left join get: the merge's trust is at most theirs.
     let from_low = bound.map(|bound| Bound { high: MOST_TRUST, ..bound });
     let mut to = |operand: Box<Node>, bound| Box::new(push(*operand, bound, seen));
@@ -127,7 +115,7 @@ fn write_node(node: &Node, to: &mut Vec<u8>) {
         Kind::Project(variable, _) => *variable,
         _ => 0,
     };
-    to.push(head(number_of(&node.kind) as u32, n));
+    to.push(head(node.kind.number() as u32, n));
     match &node.kind {
         Kind::Patterns(patterns) => patterns.iter().for_each(|pattern| write_pattern(pattern, to)),
         Kind::LeftJoin(condition, ..) | Kind::Filter(condition, _) => write_condition(condition, to),

@@ -6,24 +6,13 @@ use crate::paper::{self, Condition, Kind, Node, Pattern, Slot};
 use crate::report::Report;
 use crate::rows::{Row, Value};
 
+/// By their numbers; ensure trust, behind them, has no counterpart.
 const NODES: [&str; 6] = ["pattern set", "join", "left join", "union", "filter", "project trust"];
 /// Those that take any of `NODES`.
 const TAKE_NODES: std::ops::Range<usize> = 1..5;
 
-fn number(kind: &Kind) -> usize {
-    match kind {
-        Kind::Patterns(_) => 0,
-        Kind::Join(..) => 1,
-        Kind::LeftJoin(..) => 2,
-        Kind::Union(..) => 3,
-        Kind::Filter(..) => 4,
-        Kind::Project(..) => 5,
-        Kind::Ensure(..) => panic!("ensure trust has no counterpart"),
-    }
-}
-
 pub fn name(kind: &Kind) -> &'static str {
-    NODES[number(kind)]
+    NODES[kind.number()]
 }
 
 pub fn operands(node: &Node) -> Vec<&Node> {
@@ -61,7 +50,7 @@ impl Seen {
         let mut nodes = Vec::new();
         tree.each(&mut |node| nodes.push(node));
         for (node, operand) in nodes.iter().flat_map(|node| operands(node).into_iter().map(move |operand| (node, operand))) {
-            self.nested[number(&node.kind)][number(&operand.kind)] += 1;
+            self.nested[node.kind.number()][operand.kind.number()] += 1;
         }
         let is_left_join = |node: &Node| matches!(node.kind, Kind::LeftJoin(..));
         let within = |side: usize| nodes.iter().any(|node| is_left_join(node) && is_left_join(operands(node)[side]));

@@ -1,12 +1,11 @@
 -- The rows of an answered query in the row space: as many as told, at most 65,535, at the front and well-formed. What a call does with
 -- rows, it does with these: for a query that passed the check it has the two premises of them (`ready-answers`, `ready-formed`), and
--- then `answered-held`, `answered-rows` and `answered-few`. And what an answered call of evaluation leaves there (`evaluated-rows`).
--- Assumes nothing.
-use mathlib.Core.Path.{_≡_, refl, sym, ap, ap₂, subst, _∙_}
+-- then `answered-held`, `answered-rows` and `answered-few`. Of a whole evaluation it is `rows-stand`. Assumes nothing.
+use mathlib.Core.Path.{_≡_, refl, sym, ap, subst, _∙_}
 use mathlib.Core.List.{List}
-use Prim.Native.Nat.{ℕ, _-_, _*_, _≤_}
+use Prim.Native.Nat.{ℕ, _*_, _≤_}
 use native.Mathlib.Omega.{arith}
-use lib.ListN.{length, take, replicate}
+use lib.ListN.{length, take}
 use lib.Seq.{take-at}
 use Rattle.tsparql.specs.Lists.{Every, concatMap}
 use Rattle.tsparql.specs.Values.{Row}
@@ -16,8 +15,8 @@ use Rattle.tsparql.specs.Reading.{queryNode}
 use Rattle.tsparql.specs.PatternSets.{least, setRows, rowsOver}
 use Rattle.tsparql.specs.WellFormed.{Bytes}
 use Rattle.tsparql.specs.Check.{Passes, check}
-use Rattle.tsparql.specs.Evaluate.{rowLength, rowWords, padded, answer, answeredWith}
-use Rattle.tsparql.specs.Calls.{evaluateUntallied, evaluate}
+use Rattle.tsparql.specs.Evaluate.{rowLength, rowWords, answer, answeredWith}
+use Rattle.tsparql.specs.Calls.{evaluateUntallied}
 use Rattle.tsparql.proofs.SpaceLaws.{count-space-≤}
 use Rattle.tsparql.proofs.EvaluateLaws.{answer-fits, answer-passes, evaluate-answered}
 use Rattle.rows.specs.RowWords.{rowsIn, RowFormed, RowsHeld, Front}
@@ -28,9 +27,7 @@ use Rattle.evaluation.specs.Evaluations.{Answers}
 use Rattle.evaluation.specs.declared.QueryRows.{QueryRows}
 use Rattle.evaluation.proofs.ReadyLaws.{rows-formed}
 use Rattle.evaluation.specs.declared.QueryRows.the-variants as Q
-use Rattle.randwyler.specs.declared.Tally.{Tally}
-use Rattle.randwyler.specs.declared.Evaluated.{Evaluated}
-use Rattle.randwyler.specs.Answers.{Ready, tallyIn, evaluatedIn}
+use Rattle.randwyler.specs.Answers.{Ready}
 use Rattle.randwyler.proofs.Evaluations.{ready-seen, ready-node}
 
 -- ---- of a query that passed the check
@@ -76,24 +73,17 @@ module _ {fs : List Fact} {q : Node} {words : ℕ} {out : List ℕ} {n p k : ℕ
   pub answered-held : RowsHeld n out
   answered-held = rw answered-count (front-held rs out formed front)
 
--- ---- of an answered call
+-- ---- of an answered evaluation
 
-module _ (t s space space′ : List ℕ) (a : Tally) (x : Evaluated) (is : evaluatedIn x space′ ≡ evaluate (tallyIn a) t s space)
-    (number : x .number ≡ 0) where
-  none-refused : Passes (evaluateUntallied t s space .refusal)
-  none-refused = ap (λ y. y .evaluated .refusal .number) (sym is) ∙ number
+module _ (t s ws : List ℕ) (z : Passes (evaluateUntallied t s ws .refusal)) where
+  pub evaluation-checked : Passes (check t s)
+  evaluation-checked = evaluate-answered least (wholeTable t) t s ws z .checked
 
-  pub evaluated-checked : Passes (check t s)
-  evaluated-checked = evaluate-answered least (wholeTable t) t s space none-refused .checked
-
-  -- the rows that its row space shows are those of the query
-  pub evaluated-rows : Bytes t → rowsIn (x .rows) space′ ≡ rowsOver least (factsIn (wholeTable t) t) (queryNode s)
-  evaluated-rows bytes =
-      let told = evaluate-answered least (wholeTable t) t s space none-refused .answer-is in
-      let rows : List Row = rowsOver least (factsIn (wholeTable t) t) (queryNode s) in
-      let words : List ℕ = concatMap rowWords rows in
-      let counted : x .rows ≡ length rows = ap (λ y. y .evaluated .rows) is ∙ ap (λ e. e .rows) told in
-      let shown : space′ ≡ padded words (length space) = ap (λ y. y .evaluated .rowSpace) is ∙ ap (λ e. e .rowSpace) told in
-      ap₂ rowsIn counted shown
-      ∙ rowsIn-written rows (replicate (length space - length words) 0)
-      (ready-formed (wholeTable t) t s (record { passed = evaluated-checked; seen = refl }) bytes)
+  -- the rows that the row space shows are those of the query
+  pub rows-stand : Bytes t
+      → rowsIn (evaluateUntallied t s ws .rows) (evaluateUntallied t s ws .rowSpace)
+      ≡ rowsOver least (factsIn (wholeTable t) t) (queryNode s)
+  rows-stand bytes =
+      rw (evaluate-answered least (wholeTable t) t s ws z .answer-is)
+      (rowsIn-written (rowsOver least (factsIn (wholeTable t) t) (queryNode s)) _
+      (ready-formed (wholeTable t) t s (record { passed = evaluation-checked; seen = refl }) bytes))

@@ -1,8 +1,8 @@
 -- What the requests of document 02 ask, on the calls: whatever they answer, by their promises alone. Request 1: totals beside an
 -- evaluation (`totals-calls`), their tally (`totals-tally-calls`), and of a rewriting (`totals-rewritten-calls`). Request 2: a query that
--- names its subjects, over tables with other records behind these (`replaced-calls`, `replaced-ceiling-calls`). Request 3: how often a row
--- stands in the row space (`sparql11-calls`, `published-calls`). Assumes nothing.
-use mathlib.Core.Path.{_≡_, sym, ap, subst, _∙_}
+-- names its subjects, over tables with other records behind these (`replaced-calls`, `replaced-ceiling-calls`). Request 3: the rows in the
+-- row space (`rows-calls`), and how often one stands there (`sparql11-calls`, `published-calls`). Assumes nothing.
+use mathlib.Core.Path.{_≡_, sym, ap, ap₂, subst, _∙_}
 use mathlib.Core.Bool.{true, false}
 use mathlib.Core.List.{List}
 use Prim.Native.Nat.{ℕ}
@@ -16,7 +16,7 @@ use Rattle.tsparql.specs.Rewrite.{rewrite, Accepted, written}
 use Rattle.tsparql.specs.Check.{Passes, tableRefusal}
 use Rattle.tsparql.specs.WellFormed.{Bytes}
 use Rattle.tsparql.specs.Cardinality.{cardinality, NoError, publishedCardinality, sparql11Cardinality}
-use Rattle.tsparql.specs.Calls.{raiseOne, tallied, evaluate, ceilingCall}
+use Rattle.tsparql.specs.Calls.{raiseOne, tallied, evaluateUntallied, evaluate, ceilingCall}
 use Rattle.tsparql.specs.Totals.{totalsUntallied, totalsCall, TotalsBeside}
 use Rattle.tsparql.proofs.ChoiceLaws.{least-sound}
 use Rattle.tsparql.proofs.Published.{least-set, query-sparql11, query-published}
@@ -30,7 +30,7 @@ use Rattle.randwyler.specs.declared.Tally.{Tally}
 use Rattle.randwyler.specs.declared.Totalled.{Totalled}
 use Rattle.randwyler.specs.Answers.{rewrittenIn, tallyIn, evaluatedIn, ceilingIn, totalsIn}
 use Rattle.randwyler.proofs.Replaced.{evaluate-replaced, ceiling-replaced}
-use Rattle.randwyler.proofs.AnsweredRows.{evaluated-checked, evaluated-rows}
+use Rattle.randwyler.proofs.AnsweredRows.{evaluation-checked, rows-stand}
 
 -- ---- request 1
 
@@ -99,16 +99,25 @@ module _ (g : ℕ) (t u s : List ℕ) (alike : AlikeUpTo g (wholeTable t) (whole
 -- an answered evaluation of a query s over a table t
 module _ (t s space space′ : List ℕ) (a : Tally) (x : Evaluated) (bytes : Bytes t)
     (is : evaluatedIn x space′ ≡ evaluate (tallyIn a) t s space) (number : x .number ≡ 0) where
-  -- a row stands in the row space as often as the query's operator says, with the left join of SPARQL 1.1
+  none-refused : Passes (evaluateUntallied t s space .refusal)
+  none-refused = ap (λ y. y .evaluated .refusal .number) (sym is) ∙ number
+
+  -- the row space shows the rows of the query
+  pub rows-calls : rowsIn (x .rows) space′ ≡ rowsOver least (factsIn (wholeTable t) t) (queryNode s)
+  rows-calls =
+      ap₂ rowsIn (ap (λ y. y .evaluated .rows) is) (ap (λ y. y .evaluated .rowSpace) is) ∙ rows-stand t s space none-refused bytes
+
+  -- a row stands in it as often as the query's outermost operator counts it for the rows of its operands, with the left join of
+  -- SPARQL 1.1
   pub sparql11-calls : (r : Row)
       → cardinality (rowsIn (x .rows) space′) r ≡ sparql11Cardinality least (factsIn (wholeTable t) t) (queryNode s) r
   sparql11-calls r =
-      ap (λ (rs : List Row). cardinality rs r) (evaluated-rows t s space space′ a x is number bytes)
-      ∙ query-sparql11 least least-set t s (evaluated-checked t s space space′ a x is number) r
+      ap (λ (rs : List Row). cardinality rs r) rows-calls
+      ∙ query-sparql11 least least-set t s (evaluation-checked t s space none-refused) r
 
-  -- and as often as is published, where the condition of a left join does not err on the row's merges
+  -- and as often as is published for these, where that is no left join, or its condition does not err on the row's merges
   pub published-calls : (r : Row) → NoError (setRows least (factsIn (wholeTable t) t)) (queryNode s) r
       → cardinality (rowsIn (x .rows) space′) r ≡ publishedCardinality least (factsIn (wholeTable t) t) (queryNode s) r
   published-calls r e =
-      ap (λ (rs : List Row). cardinality rs r) (evaluated-rows t s space space′ a x is number bytes)
-      ∙ query-published least least-set t s (evaluated-checked t s space space′ a x is number) r e
+      ap (λ (rs : List Row). cardinality rs r) rows-calls
+      ∙ query-published least least-set t s (evaluation-checked t s space none-refused) r e

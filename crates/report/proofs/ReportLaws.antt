@@ -18,10 +18,8 @@ use Rattle.tsparql.specs.Strikes.{rowLine, refusedLine, countsLine, report, fac
 use Rattle.tsparql.proofs.EvaluateLaws.{evaluate-answered}
 use Rattle.tsparql.specs.WellFormed.{Bytes}
 use Rattle.rows.specs.RowWords.{rowsIn, RowFormed}
-use Rattle.rows.proofs.RowWordLaws.{rowsIn-written, length-written}
-use Rattle.patterns.proofs.RecordLaws.{facts-formed}
-use Rattle.evaluation.proofs.ReadyLaws.{rows-formed}
-use Rattle.randwyler.proofs.Evaluations.{ready-seen}
+use Rattle.rows.proofs.RowWordLaws.{length-written}
+use Rattle.randwyler.proofs.AnsweredRows.{ready-formed, rows-stand}
 
 -- ---- by the refusal
 
@@ -51,18 +49,9 @@ abbrev pub listed : List ℕ → List ℕ → List Row
 listed t s = rowsOver least (factsIn (wholeTable t) t) (queryNode s)
 
 pub listed-formed : (t s : List ℕ) → Bytes t → Passes (check t s) → Every RowFormed (listed t s)
-listed-formed t s bytes z =
-    let seen = ready-seen (wholeTable t) t s (record { passed = z; seen = refl }) in
-    rows-formed (factsIn (wholeTable t) t) (facts-formed (wholeTable t) t seen bytes) (queryNode s)
+listed-formed t s bytes z = ready-formed (wholeTable t) t s (record { passed = z; seen = refl }) bytes
 
 module _ (t s ws : List ℕ) (bytes : Bytes t) where
-  -- they stand at the front of the row space
-  rows-stand : Passes (evaluateUntallied t s ws .refusal)
-      → rowsIn (evaluateUntallied t s ws .rows) (evaluateUntallied t s ws .rowSpace) ≡ listed t s
-  rows-stand z =
-      let a = evaluate-answered least (wholeTable t) t s ws z in
-      rw (a .answer-is) (rowsIn-written (listed t s) _ (listed-formed t s bytes (a .checked)))
-
   rows-room : Passes (evaluateUntallied t s ws .refusal)
       → rowLength * evaluateUntallied t s ws .rows ≤ length (evaluateUntallied t s ws .rowSpace)
   rows-room z =
@@ -81,7 +70,8 @@ module _ (t s ws : List ℕ) (bytes : Bytes t) where
         ≡ report (evaluateUntallied t s ws) (listed t s)
     answer-report =
         rw evaluated-is (report-same (evaluateUntallied t s ws)
-        (rowsIn (evaluateUntallied t s ws .rows) (evaluateUntallied t s ws .rowSpace)) (listed t s) rows-stand)
+        (rowsIn (evaluateUntallied t s ws .rows) (evaluateUntallied t s ws .rowSpace)) (listed t s)
+        (λ z. rows-stand t s ws z bytes))
 
 -- ---- the whole text
 

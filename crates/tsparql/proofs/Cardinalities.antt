@@ -24,7 +24,7 @@ use Rattle.tsparql.specs.Cardinality.{joinCardinality, filterCardinality
 use Rattle.tsparql.specs.Cardinality.{errorCardinality, unionCardinality, projectCardinality, ensureCardinality}
 use Rattle.tsparql.specs.Cardinality.{nodeCardinality, NoError}
 use Rattle.tsparql.proofs.ListLaws.{and-left, and-right, and-both, test-eq, every-of, every-weaken}
-use Rattle.tsparql.proofs.ListLaws.{allPass-cong, allPass-and, allPass-keepIf}
+use Rattle.tsparql.proofs.ListLaws.{allPass-two, allPass-keepIf}
 use Rattle.tsparql.proofs.ListLaws.{consIf-append, keepIf-append, keepIf-keepIf, keepIf-cong, keepIf-and}
 use Rattle.tsparql.proofs.ListLaws.{keepIf-map, keepIf-concatMap}
 use Rattle.tsparql.proofs.SumLaws.{sumOver-add, sumOver-mul, sumOver-same, countIf-mul, countIf-and}
@@ -186,10 +186,10 @@ pub cardinality-filter : (c : Condition) (xs : List Row) (r : Row)
     → cardinality (keepIf (trueOn c) xs) r ≡ filterCardinality c (cardinality xs) r
 cardinality-filter c xs r = cardinality-keepIf (trueOn c) xs r
 
--- the difference's first set is in its second
-inDifference-merges : (leaves : Truth → Bool) (c : Condition) (ys : List Row) (x : Row)
-    → inDifference leaves c ys x ≡ onMerges leaves c ys x
-inDifference-merges leaves c ys x = or-absorb _ _ (allPass-or (λ y. not (compatible x y)) _ ys)
+-- of the two sets that the difference unites, the second contains the first
+pub inDifference-merges : (keeps : Truth → Bool) (c : Condition) (ys : List Row) (x : Row)
+    → inDifference keeps c ys x ≡ onMerges keeps c ys x
+inDifference-merges keeps c ys x = or-absorb _ _ (allPass-or (λ y. not (compatible x y)) _ ys)
 
 -- a left row stands alone just where it is in the difference of SPARQL 1.1
 pub stands-inDifference : (c : Condition) (ys : List Row) (x : Row) → stands c (merges x ys) ≡ inDifference isNotTrue c ys x
@@ -235,18 +235,16 @@ isFalse-parts holds = refl
 isFalse-parts fails = refl
 isFalse-parts errs = refl
 
--- the published difference leaves the rows that SPARQL 1.1 leaves, and on whose merges the condition does not err
+-- the published difference keeps those of the rows that SPARQL 1.1 keeps on whose merges the condition does not err
 pub inDifference-parts : (c : Condition) (ys : List Row) (x : Row)
     → inDifference isFalse c ys x ≡ inDifference isNotTrue c ys x && onMerges isNoError c ys x
 inDifference-parts c ys x =
     inDifference-merges isFalse c ys x
-    ∙ allPass-cong (passes isFalse) (λ y. passes isNotTrue y && passes isNoError y) ys
-    (every-of (λ y. at (compatible x y) (truthOn (merge x y .cells) c)) ys)
-    ∙ allPass-and (passes isNotTrue) (passes isNoError) ys
-    ∙ ap (λ (b : Bool). b && onMerges isNoError c ys x) (sym (inDifference-merges isNotTrue c ys x))
+    ∙ allPass-two (passes isFalse) (passes isNotTrue) (passes isNoError) (inDifference isNotTrue c ys x) ys
+    (every-of (λ y. at (compatible x y) (truthOn (merge x y .cells) c)) ys) (sym (inDifference-merges isNotTrue c ys x))
   where
     passes : (Truth → Bool) → Row → Bool
-    passes such y = not (compatible x y) || such (truthOn (merge x y .cells) c)
+    passes p y = not (compatible x y) || p (truthOn (merge x y .cells) c)
 
     at : (b : Bool) (t : Truth) → not b || isFalse t ≡ (not b || isNotTrue t) && (not b || isNoError t)
     at true t = isFalse-parts t
@@ -293,9 +291,9 @@ unfolding nodeCardinality
 cardinality-noError sets base (patternSet ps) r e = refl
 cardinality-noError sets base (join x y) r e = refl
 cardinality-noError sets base (leftJoin c x y) r e =
-    let leaves : Bool = inDifference isNotTrue c (rowsOf base y) r in
-    let same : inDifference isFalse c (rowsOf base y) r ≡ leaves =
-    inDifference-parts c (rowsOf base y) r ∙ ap (λ (b : Bool). leaves && b) e ∙ and-true leaves in
+    let kept : Bool = inDifference isNotTrue c (rowsOf base y) r in
+    let same : inDifference isFalse c (rowsOf base y) r ≡ kept =
+    inDifference-parts c (rowsOf base y) r ∙ ap (λ (b : Bool). kept && b) e ∙ and-true kept in
     ap (λ (b : Bool). filterCardinality c (joinCardinality (rowsOf base x) (rowsOf base y)) r + countIf b (cardinality (rowsOf base x) r))
     (sym same)
 cardinality-noError sets base (union x y) r e = refl

@@ -127,7 +127,7 @@ module _ (g : Aggregate) (set : SetAggregate g) (fs : List Fact) (k : Rising key
       let formed = subst NodeFormed e h in
       cardinality-set g set fs k ps (every-concatMap (λ v. v < 16) variablesOf ps (every-weaken formed-variables ps (formed .1))) r
 
-  -- and the published ones, where no condition errs
+  -- and the published ones, of a row on whose merges a left join's condition does not err
   pub cardinality-published : (q : Node) → NodeFormed q → Published g fs q
   cardinality-published q h r e = cardinality-formed q h r ∙ cardinality-noError (setCardinality g fs) (setRows g fs) q r e
 
@@ -163,6 +163,6 @@ module _ (g : Aggregate) (set : SetAggregate g) (t s : List ℕ) (z : Passes (ch
   pub checked-sparql11 : EveryNode (Sparql11 g facts) (queryNode s)
   checked-sparql11 = formed-every (Sparql11 g facts) (cardinality-formed g set facts rising) (queryNode s) formed
 
-  -- and the published ones, where no condition errs
+  -- and the published ones, of a row on whose merges a left join's condition does not err
   pub checked-published : EveryNode (Published g facts) (queryNode s)
   checked-published = formed-every (Published g facts) (cardinality-published g set facts rising) (queryNode s) formed
