@@ -1,5 +1,5 @@
 -- The worked cases of document 01 and some more, as one table about the definitions with one proof, by computation.
--- An entry has what the definitions give on its left and what document 01 or request 1 says on its right, worked out by hand (texts go
+-- An entry has what the definitions give on its left and what document 01, 000 or a request says on its right, worked out by hand (texts go
 -- through `ascii`, and one printout stands in numbers). Groups: cases 1 to 9; rows, order, trust and solutions; push; conditions;
 -- ceilings and tallies; totals; refusals and their places. Inputs are in hexadecimal. Printouts are computed by a form of `strikes` that
 -- works nothing out twice. Assumes nothing.
@@ -34,7 +34,7 @@ use Rattle.tsparql.specs.Totals.{leastTrust, groups, totalsWords, totals
 use Rattle.tsparql.specs.Runs.{Request, TalliedCall, anEvaluation, aTotals, zeroTally, run}
 use Rattle.tsparql.specs.Strikes.{ascii, digits, decimal, rowLine, refusedLine, countsLine, report}
 use Rattle.tsparql.specs.Strikes.{factsLimit, programRows, strikes}
-use Rattle.tsparql.specs.Cardinality.{setCardinality}
+use Rattle.tsparql.specs.Cardinality.{setCardinality, nodeCardinality, publishedCardinality, sparql11Cardinality}
 
 -- ---- hexadecimal
 
@@ -191,11 +191,19 @@ setAB = triple (aVariable 0) (aTerm 20) (aTerm 21) ∷ triple (aVariable 0) (aTe
 setTwice : List Pattern
 setTwice = triple (aVariable 0) (aTerm 20) (aTerm 21) ∷ triple (aVariable 0) (aTerm 20) (aVariable 1) ∷ []
 
--- how often a row stands among the solutions of a set over W: its first cells, the others being free, and its trust plus 1000
+-- a row by its first cells, the others being free, and its trust plus 1000
+rowOf : List Cell → ℕ → Row
+rowOf cs t = record { cells = cs ++ replicate (16 - length cs) free; trust = known t }
+
+-- how often it stands among the solutions of a set over W
 solutions : List Pattern → List Cell → ℕ → List ℕ
-solutions ps cs t =
-    let r : Row = record { cells = cs ++ replicate (16 - length cs) free; trust = known t } in
-    setCardinality least (factsIn (wholeTable W) W) ps r ∷ []
+solutions ps cs t = setCardinality least (factsIn (wholeTable W) W) ps (rowOf cs t) ∷ []
+
+-- how often it is counted for a query over W, as published and with the difference of SPARQL 1.1
+counts : List ℕ → List Cell → ℕ → List ℕ
+counts q cs t =
+    let fs = factsIn (wholeTable W) W in
+    publishedCardinality least fs (queryNode q) (rowOf cs t) ∷ sparql11Cardinality least fs (queryNode q) (rowOf cs t) ∷ []
 
 -- no row of A, and both, under a filter
 noRows : List ℕ
@@ -308,6 +316,14 @@ moreCases =
     ∷ (W with leftAB (hex "60 21 00 00 0B 11 02") prints ascii "rows 2 peak 6 pairs 4\n800 ?0=1 ?1=11\n? ?0=2\n")
     -- false on every merge: the left rows themselves
     ∷ (W with leftAB (hex "40 70") prints ascii "rows 2 peak 6 pairs 4\n800 ?0=1\n? ?0=2\n")
+    -- the left row ?0 = 1 as published, and in SPARQL 1.1: under an error, an error and false, false, true and an error; and its merge then
+    ∷ (counts (leftAB (hex "11 02")) (term 1 ∷ []) 1800 gives 0 ∷ 1 ∷ [])
+    ∷ (counts (leftAB (hex "50 21 00 00 0B 11 02")) (term 1 ∷ []) 1800 gives 0 ∷ 1 ∷ [])
+    ∷ (counts (leftAB (hex "40 70")) (term 1 ∷ []) 1800 gives 1 ∷ 1 ∷ [])
+    ∷ (counts (leftAB (hex "60 21 00 00 0B 11 02")) (term 1 ∷ []) 1800 gives 0 ∷ 0 ∷ [])
+    ∷ (counts (leftAB (hex "60 21 00 00 0B 11 02")) (term 1 ∷ term 11 ∷ []) 1800 gives 1 ∷ 1 ∷ [])
+    -- and where it stands twice
+    ∷ (counts (hex "20 11 02 30" ++ (A ++ (A ++ B))) (term 1 ∷ []) 1800 gives 0 ∷ 2 ∷ [])
     -- an unknown trust: projected, bound on it, an error for same
     ∷ (W with hex "51" ++ A prints ascii "rows 2 peak 2 pairs 0\n800 ?0=1 ?1=t800\n? ?0=2 ?1=t?\n")
     ∷ (W with hex "40 01 51" ++ A prints ascii "rows 2 peak 2 pairs 0\n800 ?0=1 ?1=t800\n? ?0=2 ?1=t?\n")
@@ -525,7 +541,7 @@ unfolding totalled totalledSpace request evaluation totalsInto tallies
 totalling = tt
 
 sets : Unit {0}
-unfolding triple tupleLines setAB setTwice solutions tuples tupleRows
+unfolding triple tupleLines setAB setTwice rowOf solutions counts nodeCardinality tuples tupleRows
 sets = tt
 
 lists : Unit {0}
