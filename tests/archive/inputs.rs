@@ -4,6 +4,7 @@ use crate::paper::CHECK_LIMIT;
 use crate::queries::{self, Nested, Query, MANY_PATTERNS, NARROW};
 use crate::random::Random;
 use crate::tables;
+use crate::vectors;
 
 /// Every sort of table and query that a check may meet.
 pub fn wide(random: &mut Random, nested: &mut Nested) -> (Vec<u8>, Vec<u8>) {
@@ -50,18 +51,12 @@ pub fn pattern_set(random: &mut Random) -> (Vec<u8>, Vec<u8>) {
     (table, queries::pattern_set(random, &MANY_PATTERNS.with_terms(&terms)))
 }
 
-/// A slot of a term.
-pub fn of_term(term: u32) -> [u8; 3] {
-    let [_, slot @ ..] = term.to_be_bytes();
-    slot
-}
-
 /// A slot of one of the variables 0 to 3, or of a term.
 fn slot(random: &mut Random, terms: &[u32]) -> [u8; 3] {
     if random.below(3) > 0 {
         return [0x10, 0, random.below(4) as u8];
     }
-    of_term(random.pick(terms))
+    vectors::of_term(random.pick(terms))
 }
 
 /// A set of one pattern.

@@ -4,6 +4,7 @@
 use crate::inputs;
 use crate::random::Random;
 use crate::tables;
+use crate::vectors;
 
 /// Variables 0 to 3 stand in patterns, and these in project trusts, once each.
 const TO_PROJECT: [u8; 6] = [4, 5, 9, 10, 14, 15];
@@ -50,7 +51,7 @@ impl Maker<'_> {
         match self.random.below(if depth == 0 { 7 } else { 12 }) {
             0 => vec![v],
             1 | 2 => vec![0x10 | v, w],
-            3 | 4 => [&[0x20 | v][..], &inputs::of_term(self.random.pick(self.terms))].concat(),
+            3 | 4 => [&[0x20 | v][..], &vectors::of_term(self.random.pick(self.terms))].concat(),
             5 | 6 => vec![0x30 | v, w],
             7 => [vec![0x40], self.condition(depth - 1)].concat(),
             8 | 9 => [vec![0x50], self.condition(depth - 1), self.condition(depth - 1)].concat(),

@@ -5,6 +5,7 @@ use crate::paper::{self, Kind, Node, Pattern, Slot, CHECK_LIMIT, RECORD_BYTES, V
 use crate::random::Random;
 use crate::rows::{self, Outcome, Seen, Value};
 use crate::tables;
+use crate::vectors;
 
 pub const LAST_TERM: u32 = 1_048_575;
 const PATTERN_BYTES: usize = 9;
@@ -79,11 +80,6 @@ fn of_variable(variable: u8) -> [u8; 3] {
     [VARIABLE, 0, variable]
 }
 
-fn of_term(term: u32) -> [u8; 3] {
-    let [_, slot @ ..] = term.to_be_bytes();
-    slot
-}
-
 /// Makes a query about some records. Its patterns are made about one row: in it a variable has one term, so that patterns often fit
 /// together.
 pub struct Maker<'a> {
@@ -128,7 +124,7 @@ impl<'a> Maker<'a> {
             1 => term + 1,
             _ => term,
         };
-        of_term(near.clamp(1, LAST_TERM))
+        vectors::of_term(near.clamp(1, LAST_TERM))
     }
 
     /// A variable that has the term, or has none and takes it; now and then any.
@@ -137,7 +133,7 @@ impl<'a> Maker<'a> {
         let fits = |variable: &u8| any || self.row[usize::from(*variable)].map_or(true, |other| other == term);
         let fitting: Vec<u8> = self.in_patterns.iter().copied().filter(fits).collect();
         if fitting.is_empty() {
-            return of_term(term);
+            return vectors::of_term(term);
         }
         let variable = self.random.pick(&fitting);
         self.row[usize::from(variable)].get_or_insert(term);
@@ -158,7 +154,7 @@ impl<'a> Maker<'a> {
     fn other(&mut self, term: u32) -> [u8; 3] {
         match self.random.below(8) {
             0..5 => self.variable(term),
-            5 | 6 => of_term(term),
+            5 | 6 => vectors::of_term(term),
             _ => self.near(term),
         }
     }
@@ -183,7 +179,7 @@ impl<'a> Maker<'a> {
             1 => vec![0x10 | v, w],
             2 => {
                 let [_, _, object] = self.triple();
-                [&[0x20 | v][..], &of_term(object)].concat()
+                [&[0x20 | v][..], &vectors::of_term(object)].concat()
             }
             3 => vec![0x30 | v, w],
             4 => vec![0x70],

@@ -52,6 +52,12 @@ pub fn query(text: &str) -> Vec<u8> {
     bytes(&NAMES.iter().fold(text.to_string(), |text, (name, bytes)| text.replace(*name, bytes)))
 }
 
+/// A slot of a term.
+pub fn of_term(term: u32) -> [u8; 3] {
+    let [_, slot @ ..] = term.to_be_bytes();
+    slot
+}
+
 /// A slot as in the display's trees: `?5`, or a term in decimal.
 fn slot(text: &str) -> String {
     match text.strip_prefix('?') {

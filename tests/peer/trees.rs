@@ -4,6 +4,7 @@
 use crate::paper::{self, VARIABLES};
 use crate::random::Random;
 use crate::tables;
+use crate::vectors;
 
 /// Levels of nodes over pattern sets.
 const DEEPEST: usize = 4;
@@ -26,11 +27,6 @@ struct Maker<'a> {
     /// For project trusts, and those that are not used yet.
     trusts: Vec<u8>,
     to_project: Vec<u8>,
-}
-
-fn of_term(term: u32) -> [u8; 3] {
-    let [_, slot @ ..] = term.to_be_bytes();
-    slot
 }
 
 fn pair(head: Vec<u8>, left: Made, right: Made) -> Made {
@@ -65,7 +61,7 @@ impl<'a> Maker<'a> {
                 let variable = self.variable_of_slot(&variables[first..]);
                 bytes.extend(match variable {
                     Some(variable) => [0x10, 0, variable],
-                    None => of_term(self.random.pick(&self.terms)),
+                    None => vectors::of_term(self.random.pick(&self.terms)),
                 });
                 variables.extend(variable);
             }
@@ -108,7 +104,7 @@ impl<'a> Maker<'a> {
         match self.random.below(if depth == 0 { 8 } else { 14 }) {
             0 | 1 => vec![v],
             2 | 3 => vec![0x10 | v, w],
-            4 | 5 => [&[0x20 | v][..], &of_term(self.random.pick(&self.terms))].concat(),
+            4 | 5 => [&[0x20 | v][..], &vectors::of_term(self.random.pick(&self.terms))].concat(),
             6 => vec![0x30 | v, w],
             7 => vec![0x70],
             8 | 9 => [vec![0x40], of(self)].concat(),

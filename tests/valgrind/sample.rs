@@ -33,6 +33,8 @@ mod rows;
 mod spaces;
 #[path = "../archive/tables.rs"]
 mod tables;
+#[path = "../archive/vectors.rs"]
+mod vectors;
 
 use groups::Totals;
 use paper::Tally;
