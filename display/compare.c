@@ -2,7 +2,9 @@
  * has, how many rows of row space it takes and how many pairs it tries; then whether the rows are equal, word for word and in the
  * same order, and the rows.
  *
- *     compare FACTS QUERY
+ *     compare FACTS QUERY [mean]
+ *
+ * With `mean` the trust of a pattern set's row is the mean of its records' trusts in both evaluations, without it the least.
  *
  * Exit status: 0 rows are listed, and they are equal if both are answered; 1 an input is refused, or nothing is answered; 2 a
  * file cannot be read, the output cannot be written, there is no memory, or the usage is wrong; 3 the two do not agree as it is
@@ -26,11 +28,12 @@ enum { LISTED = 0, REFUSED = 1, UNUSABLE = 2, BROKEN = 3 };
 enum { MOST_COLUMNS = 60, LEAST_COLUMNS = 32, GAP = 4 };
 enum { SPACE_WORDS = RANDWYLER_MOST_ROWS * RANDWYLER_ROW_WORDS };
 
-/* The query or its rewriting, and the answer to it, whose rows stand in `space`. */
+/* The query or its rewriting, the choice by which it is evaluated, and the answer to it, whose rows stand in `space`. */
 struct side {
     const char *name;
     const uint8_t *bytes;
     size_t length;
+    bool mean;
     uint32_t *space;
     struct randwyler_evaluated answer;
 };
@@ -100,7 +103,7 @@ static void print_beside(const char *left, const char *right, size_t width)
 static void evaluate(struct content facts, struct side *side)
 {
     fflush(stdout);
-    side->answer = randwyler_evaluate(facts.bytes, facts.length, side->bytes, side->length, side->space, SPACE_WORDS,
+    side->answer = randwyler_evaluate(facts.bytes, facts.length, side->bytes, side->length, side->mean, side->space, SPACE_WORDS,
                                       (struct randwyler_tally){0, 0});
 }
 
@@ -210,8 +213,8 @@ static int show_query(struct content facts, struct side *query)
     return query->answer.number != RANDWYLER_ANSWERED ? REFUSED : list("its rows", query);
 }
 
-/* Checks both inputs, and compares. */
-static int compare(struct content facts, struct content query, uint32_t *spaces[2])
+/* Checks both inputs, and compares, by one choice for both evaluations. */
+static int compare(struct content facts, struct content query, bool mean, uint32_t *spaces[2])
 {
     struct randwyler_refusal refusal = randwyler_check(facts.bytes, facts.length, query.bytes, query.length);
     if (refusal.number != RANDWYLER_ANSWERED) {
@@ -220,8 +223,10 @@ static int compare(struct content facts, struct content query, uint32_t *spaces[
     }
     uint8_t output[RANDWYLER_MOST_RESULT_BYTES];
     struct randwyler_rewritten rewritten = randwyler_rewrite(query.bytes, query.length, output, sizeof output);
-    struct side sides[2] = {{.name = "query", .bytes = query.bytes, .length = query.length, .space = spaces[0]},
-                            {.name = "rewriting", .bytes = output, .length = (size_t)rewritten.length, .space = spaces[1]}};
+    struct side sides[2] = {
+        {.name = "query", .bytes = query.bytes, .length = query.length, .mean = mean, .space = spaces[0]},
+        {.name = "rewriting", .bytes = output, .length = (size_t)rewritten.length, .mean = mean, .space = spaces[1]},
+    };
     if (rewritten.number != RANDWYLER_ANSWERED) {
         print_refusal("rewriting", rewritten.number, rewritten.place);
         return show_query(facts, &sides[0]);
@@ -232,8 +237,9 @@ static int compare(struct content facts, struct content query, uint32_t *spaces[
 
 int main(int argc, char **argv)
 {
-    if (argc != 3) {
-        fputs("usage: compare FACTS QUERY\n", stderr);
+    bool mean = argc == 4 && strcmp(argv[3], "mean") == 0;
+    if (argc != 3 && !mean) {
+        fputs("usage: compare FACTS QUERY [mean]\n", stderr);
         return UNUSABLE;
     }
     struct content facts = {NULL, 0}, query = {NULL, 0};
@@ -241,7 +247,7 @@ int main(int argc, char **argv)
     int status = UNUSABLE;
     for (int i = 0; i < 2; i++) spaces[i] = given(malloc(SPACE_WORDS * sizeof *spaces[i]));
     if (read_file("compare", argv[1], &facts) == 0 && read_file("compare", argv[2], &query) == 0) {
-        status = compare(facts, query, spaces);
+        status = compare(facts, query, mean, spaces);
     }
     for (int i = 0; i < 2; i++) free(spaces[i]);
     free(facts.bytes);

@@ -11,6 +11,7 @@
 #ifndef RANDWYLER_H
 #define RANDWYLER_H
 
+#include <stdbool.h>
 #include <stddef.h>
 #include <stdint.h>
 
@@ -19,8 +20,8 @@ extern "C" {
 #endif
 
 /* The version of this header. The first number rises where a declared call changes or goes, the second where one comes. */
-#define RANDWYLER_VERSION_MAJOR 1
-#define RANDWYLER_VERSION_MINOR 1
+#define RANDWYLER_VERSION_MAJOR 2
+#define RANDWYLER_VERSION_MINOR 0
 
 /* Sizes of tables and queries. */
 #define RANDWYLER_RECORD_BYTES 9
@@ -146,9 +147,12 @@ struct randwyler_evaluated {
 /* Evaluates a query of at most 5,120 bytes on a table, in a row space of `space_len` words. A row is 17 words; as many whole
  * rows as fit, and never more than 65,535, are the capacity; the refusals are 1 to 8. An answer leaves the rows at the front of the
  * row space and 0 in all its later words. Refusal 8 leaves it all 0, 1 to 7 leave it unchanged. What stands in it before the
- * call has no influence. Table and query are not written. */
+ * call has no influence. Table and query are not written.
+ * `mean` chooses the trust of a pattern set's row. false: the least of the records that its patterns use. true: their mean, in which a
+ * record that several patterns use counts once, rounded down to a whole thousandth (-502.5 to -503). By either it is unknown if the
+ * trust of one of them is, and 1000 for the empty set. All else is the same: the merge in a join has the lesser trust of the two rows. */
 struct randwyler_evaluated randwyler_evaluate(const uint8_t *table, size_t table_len, const uint8_t *query, size_t query_len,
-                                              uint32_t *space, size_t space_len, struct randwyler_tally tally);
+                                              bool mean, uint32_t *space, size_t space_len, struct randwyler_tally tally);
 
 /* Why totals are refused, and where, as in struct randwyler_refusal; and how many words of the output the entries take, 0 on a
  * refusal and where there are no rows; and the tally that was given, with answered raised by 1, or refused on any refusal. */
@@ -163,14 +167,14 @@ struct randwyler_totalled {
  * group too. Writes an entry of 3 words for each group to the front of the output, in the order of the groups' first rows:
  *   cell   as in these rows; 0 if free
  *   count  how many rows the group has; the sum of all counts is the evaluation's rows
- *   trust  the least trust of these rows, as in a row; RANDWYLER_UNKNOWN_TRUST if the trust of one of them is unknown
+ *   trust  the least trust of these rows, by either choice of `mean`, as in a row; RANDWYLER_UNKNOWN_TRUST if that of one is unknown
  * The refusals, in this order, are 1 to 7; 10 at place 0 for the variable; 8; and 10 at the words needed for the output. 1 to 7, and 10
  * at place 0, leave the row space unchanged. Else it ends as randwyler_evaluate leaves it, even if the output is too short. The output's
  * words behind the entries are not written; on a refusal none is. There are no more groups than rows, so an output of 3 words for each
  * row of the capacity always does. Table and query are not written. */
 struct randwyler_totalled randwyler_totals_of(const uint8_t *table, size_t table_len, const uint8_t *query, size_t query_len,
-                                              uint32_t variable, uint32_t *space, size_t space_len, uint32_t *output,
-                                              size_t output_len, struct randwyler_tally tally);
+                                              bool mean, uint32_t variable, uint32_t *space, size_t space_len,
+                                              uint32_t *output, size_t output_len, struct randwyler_tally tally);
 
 #ifdef __cplusplus
 }

@@ -5,8 +5,8 @@
 #![allow(dead_code)] // no program has to use all of it
 
 // The header's version of these declarations.
-pub const VERSION_MAJOR: u32 = 1;
-pub const VERSION_MINOR: u32 = 1;
+pub const VERSION_MAJOR: u32 = 2;
+pub const VERSION_MINOR: u32 = 0;
 
 // Sizes of tables and queries.
 pub const RECORD_BYTES: usize = 9;
@@ -132,6 +132,7 @@ pub mod raw {
             table_len: usize,
             query: *const u8,
             query_len: usize,
+            mean: bool,
             space: *mut u32,
             space_len: usize,
             tally: Tally,
@@ -141,6 +142,7 @@ pub mod raw {
             table_len: usize,
             query: *const u8,
             query_len: usize,
+            mean: bool,
             variable: u32,
             space: *mut u32,
             space_len: usize,
@@ -166,15 +168,16 @@ pub fn ceiling_of(table: &[u8], query: &[u8]) -> Ceiling {
     unsafe { raw::randwyler_ceiling_of(table.as_ptr(), table.len(), query.as_ptr(), query.len()) }
 }
 
-pub fn evaluate(table: &[u8], query: &[u8], space: &mut [u32], tally: Tally) -> Evaluated {
+pub fn evaluate(table: &[u8], query: &[u8], mean: bool, space: &mut [u32], tally: Tally) -> Evaluated {
     let (words, length) = (space.as_mut_ptr(), space.len());
     // SAFETY: the pointers and lengths are those of slices; table and query are only read, and the space is lent to be written.
-    unsafe { raw::randwyler_evaluate(table.as_ptr(), table.len(), query.as_ptr(), query.len(), words, length, tally) }
+    unsafe { raw::randwyler_evaluate(table.as_ptr(), table.len(), query.as_ptr(), query.len(), mean, words, length, tally) }
 }
 
 pub fn totals_of(
     table: &[u8],
     query: &[u8],
+    mean: bool,
     variable: u32,
     space: &mut [u32],
     output: &mut [u32],
@@ -187,6 +190,7 @@ pub fn totals_of(
             table.len(),
             query.as_ptr(),
             query.len(),
+            mean,
             variable,
             space.as_mut_ptr(),
             space.len(),

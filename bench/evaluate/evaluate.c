@@ -82,8 +82,9 @@ static struct randwyler_evaluated evaluate(struct bench *b, enum contender c, si
     const struct randwyler_tally none = {0, 0};
     const struct query *q = &b->queries[question];
     size_t bytes = RECORD_BYTES * b->records;
-    if (c == OURS) return randwyler_evaluate(b->table, bytes, q->bytes, q->length, b->space[c], b->words, none);
-    return plain_evaluate(b->table, bytes, q->bytes, q->length, b->space[c], b->words, none);
+    bool mean = questions[question].mean;
+    if (c == OURS) return randwyler_evaluate(b->table, bytes, q->bytes, q->length, mean, b->space[c], b->words, none);
+    return plain_evaluate(b->table, bytes, q->bytes, q->length, mean, b->space[c], b->words, none);
 }
 
 static bool there(const struct bench *b, enum contender c)

@@ -9,6 +9,6 @@
 enum { ROW_WORDS = 17, TRUST_WORD = 16 };
 
 struct randwyler_evaluated plain_evaluate(const uint8_t *table, size_t table_len, const uint8_t *query, size_t query_len,
-                                          uint32_t *space, size_t space_len, struct randwyler_tally tally);
+                                          bool mean, uint32_t *space, size_t space_len, struct randwyler_tally tally);
 
 #endif

@@ -19,6 +19,12 @@ enum { STRIKE_AT = 1, TERM_BYTES = 3 };
 #define ONE_PAN(strike) SET(1), PAN_OF(strike)
 #define ONE_CREW(strike) SET(1), CREW_OF(strike)
 
+/* Pan and crew of the strikes of one grade; SQL has an expression for the row's trust. */
+#define STAR(trust) \
+    QUERY(SET(3), VARIABLE(0), TERM(GRADE), TERM(ONE_GRADE), PAN_AND_CREW(0)), .columns = 3, .variables = {0, 1, 2}, \
+    .sql = "SELECT g.s, p.o, c.o, " trust " FROM facts g JOIN facts p ON p.s = g.s JOIN facts c ON c.s = g.s" \
+           " WHERE g.p = :grade AND g.o = :graded AND p.p = :pan AND c.p = :crew"
+
 /* Pairs of strikes with one pan and crew. */
 #define PAIRS \
     "WITH boiled AS (SELECT p.s, p.o AS pan, c.o AS crew, min(p.trust, c.trust) AS t FROM facts p JOIN facts c ON c.s = p.s" \
@@ -50,11 +56,10 @@ const struct question questions[] = {
             " FROM facts g LEFT JOIN facts m ON m.s = g.s AND m.p = :sample"
             " WHERE g.p = :grade AND g.o = :graded AND g.trust BETWEEN 500 AND 1000 AND t BETWEEN 500 AND 1000"},
 
-    {"star of three patterns", QUERY(SET(3), VARIABLE(0), TERM(GRADE), TERM(ONE_GRADE), PAN_AND_CREW(0)), .columns = 3,
-     .variables = {0, 1, 2},
-     .sql = "SELECT g.s, p.o, c.o, min(g.trust, p.trust, c.trust)"
-            " FROM facts g JOIN facts p ON p.s = g.s JOIN facts c ON c.s = g.s"
-            " WHERE g.p = :grade AND g.o = :graded AND p.p = :pan AND c.p = :crew"},
+    {"star of three patterns", STAR("min(g.trust, p.trust, c.trust)")},
+
+    /* The three records differ by their predicates; SQL's quotient is rounded towards 0, so it is one of numbers above 0. */
+    {"star of three patterns, mean", STAR("(g.trust + p.trust + c.trust + 3000) / 3 - 1000"), .mean = true},
 
     {"pairs with one pan and crew", QUERY(JOIN, SET(2), PAN_AND_CREW(0), SET(2), PAN_AND_CREW(3)), .columns = 4,
      .variables = {0, 1, 2, 3}, .sql = PAIRS},

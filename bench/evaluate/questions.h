@@ -18,6 +18,8 @@ struct question {
     enum strike strike;
     /* The query is what the rewriting makes of these bytes. */
     bool rewritten;
+    /* The trust of a pattern set's row is the mean of its records' trusts, and not the least. */
+    bool mean;
     /* The columns are values of these variables, and then the trust, NULL if it is unknown. */
     unsigned columns;
     uint8_t variables[MOST_COLUMNS];

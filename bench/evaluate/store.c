@@ -29,10 +29,16 @@ static void add(struct store *s, uint32_t subject, uint32_t predicate, uint32_t 
 
 void store_fill(uint8_t *table, size_t records, uint64_t seed)
 {
+    store_fill_limited(table, records, MOST_RECORDS, seed);
+}
+
+void store_fill_limited(uint8_t *table, size_t records, uint32_t samples, uint64_t seed)
+{
     struct store s = {table, table + RECORD_BYTES * records, seed};
-    uint32_t sample = FIRST_SAMPLE, pans = 1 + (uint32_t)(records / RECORDS_A_PAN);
+    uint32_t sample = FIRST_SAMPLE, end = FIRST_SAMPLE + samples, pans = 1 + (uint32_t)(records / RECORDS_A_PAN);
     for (uint32_t strike = 1; s.next < s.end; strike++) {
-        for (uint32_t n = random_below(&s.state, MOST_SAMPLES + 1); n > 0; n--) add(&s, strike, SAMPLE, sample++);
+        uint32_t n = random_below(&s.state, MOST_SAMPLES + 1);
+        for (; n > 0 && sample < end; n--) add(&s, strike, SAMPLE, sample++);
         add(&s, strike, GRADE, ONE_GRADE + random_below(&s.state, GRADES));
         add(&s, strike, PAN, FIRST_PAN + random_below(&s.state, pans));
         add(&s, strike, CREW, FIRST_CREW + random_below(&s.state, CREWS));

@@ -18,6 +18,9 @@ enum strike { NO_STRIKE, FIRST_STRIKE, MIDDLE_STRIKE, LAST_STRIKE };
 /* Writes a table of so many records, always the same for the same seed. */
 void store_fill(uint8_t *table, size_t records, uint64_t seed);
 
+/* The same with at most so many samples: the strikes behind the last of them have none. */
+void store_fill_limited(uint8_t *table, size_t records, uint32_t samples, uint64_t seed);
+
 /* The subject of one of these strikes, which is in the table; it has at least one record. */
 uint32_t store_strike(const uint8_t *table, size_t records, enum strike which);
 

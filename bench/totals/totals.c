@@ -65,14 +65,15 @@ static uint32_t *allocate_words(size_t words)
 static struct randwyler_evaluated evaluate(const struct bench *b, uint32_t *space, size_t words)
 {
     const struct question *q = &b->question->asked;
-    return randwyler_evaluate(b->table, RECORD_BYTES * b->records, q->query, q->length, space, words, (struct randwyler_tally){0, 0});
+    const struct randwyler_tally none = {0, 0};
+    return randwyler_evaluate(b->table, RECORD_BYTES * b->records, q->query, q->length, q->mean, space, words, none);
 }
 
 static struct randwyler_totalled total(const struct bench *b, size_t room)
 {
     const struct question *q = &b->question->asked;
-    return randwyler_totals_of(b->table, RECORD_BYTES * b->records, q->query, q->length, b->question->variable, b->space, b->words,
-                               b->entries, room, (struct randwyler_tally){0, 0});
+    return randwyler_totals_of(b->table, RECORD_BYTES * b->records, q->query, q->length, q->mean, b->question->variable, b->space,
+                               b->words, b->entries, room, (struct randwyler_tally){0, 0});
 }
 
 static size_t group(const struct bench *b, const uint32_t *space, size_t room)

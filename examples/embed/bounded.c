@@ -23,8 +23,9 @@ static const uint8_t query[] = {
 
 static void evaluate(const char *what, const uint8_t *bytes, size_t length, uint32_t *space, size_t words)
 {
+    const bool mean = false; /* the trust of a pattern set's row is the least of its records' trusts */
     struct randwyler_tally tally = {0, 0};
-    struct randwyler_evaluated answer = randwyler_evaluate(table, sizeof table, bytes, length, space, words, tally);
+    struct randwyler_evaluated answer = randwyler_evaluate(table, sizeof table, bytes, length, mean, space, words, tally);
     printf("%s: number %" PRIu32 " rows %" PRIu32 " peak %" PRIu32 "\n", what, answer.number, answer.rows, answer.peak);
 }
 

@@ -1,13 +1,16 @@
 /* The engine in a program in C: checks a table and a query, lists the rows of the query and of its rewriting, and then a line for each
  * strike: how many rows it has, and the least of their trusts.
  *
- *     embed FACTS QUERY
+ *     embed FACTS QUERY [mean]
+ *
+ * With `mean` the trust of a pattern set's row is the mean of its records' trusts, without it the least.
  *
  * Exit status: 0 the rows were listed; 1 an input was refused; 2 a file cannot be read, or there is no memory.
  */
 #include <inttypes.h>
 #include <stdio.h>
 #include <stdlib.h>
+#include <string.h>
 
 #include "randwyler.h"
 
@@ -84,7 +87,7 @@ static void print_entry(uint32_t variable, const uint32_t *entry)
 }
 
 /* Evaluates in a row space of so many rows, and as long as it is too small in one of twice as many. Lists the rows. */
-static int list(struct slice table, struct slice query, size_t rows, struct randwyler_tally *tally)
+static int list(struct slice table, struct slice query, bool mean, size_t rows, struct randwyler_tally *tally)
 {
     for (;;) {
         uint32_t *space = malloc(rows * RANDWYLER_ROW_WORDS * sizeof *space);
@@ -92,7 +95,7 @@ static int list(struct slice table, struct slice query, size_t rows, struct rand
             puts("no memory");
             return FAILED;
         }
-        struct randwyler_evaluated answer = randwyler_evaluate(table.bytes, table.length, query.bytes, query.length,
+        struct randwyler_evaluated answer = randwyler_evaluate(table.bytes, table.length, query.bytes, query.length, mean,
                                                                space, rows * RANDWYLER_ROW_WORDS, *tally);
         *tally = answer.tally;
         if (answer.number == RANDWYLER_ANSWERED) {
@@ -107,10 +110,10 @@ static int list(struct slice table, struct slice query, size_t rows, struct rand
 }
 
 /* Lists totals by a variable, in the most rows, with an output that is never too short. */
-static void list_totals(struct slice table, struct slice query, uint32_t variable, struct randwyler_tally *tally)
+static void list_totals(struct slice table, struct slice query, bool mean, uint32_t variable, struct randwyler_tally *tally)
 {
     static uint32_t space[RANDWYLER_MOST_ROWS * RANDWYLER_ROW_WORDS], output[RANDWYLER_MOST_TOTALS_WORDS];
-    struct randwyler_totalled answer = randwyler_totals_of(table.bytes, table.length, query.bytes, query.length, variable,
+    struct randwyler_totalled answer = randwyler_totals_of(table.bytes, table.length, query.bytes, query.length, mean, variable,
                                                            space, RANDWYLER_MOST_ROWS * RANDWYLER_ROW_WORDS,
                                                            output, RANDWYLER_MOST_TOTALS_WORDS, *tally);
     *tally = answer.tally;
@@ -129,7 +132,7 @@ static size_t first_rows(uint32_t ceiling)
     return ceiling < RANDWYLER_MOST_ROWS ? ceiling : RANDWYLER_MOST_ROWS;
 }
 
-static int run(struct slice table, struct slice query)
+static int run(struct slice table, struct slice query, bool mean)
 {
     struct randwyler_refusal check = randwyler_check(table.bytes, table.length, query.bytes, query.length);
     if (check.number != RANDWYLER_ANSWERED) return print_refusal(check.number, check.place);
@@ -140,21 +143,21 @@ static int run(struct slice table, struct slice query)
 
     struct randwyler_tally tally = {0, 0};
     fputs("query: ", stdout);
-    int status = list(table, query, rows, &tally);
+    int status = list(table, query, mean, rows, &tally);
 
     uint8_t output[RANDWYLER_MOST_RESULT_BYTES];
     struct randwyler_rewritten rewritten = randwyler_rewrite(query.bytes, query.length, output, sizeof output);
     fputs("rewriting: ", stdout);
     if (rewritten.number == RANDWYLER_ANSWERED) {
         query = (struct slice){output, (size_t)rewritten.length};
-        status = list(table, query, rows, &tally);
+        status = list(table, query, mean, rows, &tally);
     } else {
         print_refusal(rewritten.number, rewritten.place);
     }
 
     /* Of the rewriting, or of the query if it is too long to be rewritten. */
     fputs("totals: ", stdout);
-    list_totals(table, query, STRIKE, &tally);
+    list_totals(table, query, mean, STRIKE, &tally);
     printf("tally: answered %" PRIu32 " refused %" PRIu32 "\n", tally.answered, tally.refused);
     return status;
 }
@@ -177,11 +180,12 @@ int main(int argc, char **argv)
 {
     static uint8_t facts[(RANDWYLER_MOST_RECORDS + 1) * RANDWYLER_RECORD_BYTES], bytes[RANDWYLER_MOST_QUERY_BYTES + 1];
     struct slice table, query;
-    if (argc != 3) {
-        fputs("usage: embed FACTS QUERY\n", stderr);
+    bool mean = argc == 4 && strcmp(argv[3], "mean") == 0;
+    if (argc != 3 && !mean) {
+        fputs("usage: embed FACTS QUERY [mean]\n", stderr);
         return FAILED;
     }
     if (read_file(argv[1], facts, sizeof facts, &table) != 0) return FAILED;
     if (read_file(argv[2], bytes, sizeof bytes, &query) != 0) return FAILED;
-    return run(table, query);
+    return run(table, query, mean);
 }

@@ -1,7 +1,9 @@
 //! The engine in a program in Rust: checks a table and a query, lists the rows of the query and of its rewriting, which are evaluated on
 //! a thread each, and then a line for each strike: how many rows it has, and the least of their trusts.
 //!
-//!     embed FACTS QUERY
+//!     embed FACTS QUERY [mean]
+//!
+//! With `mean` the trust of a pattern set's row is the mean of its records' trusts, without it the least.
 //!
 //! Exit status: 0 the rows were listed; 1 an input was refused; 2 a file cannot be read.
 
@@ -67,12 +69,15 @@ fn line(row: &[u32]) -> String {
     line
 }
 
-/// The last answer and its row space: of so many rows, or, as long as that is too small, of twice as many.
-fn evaluate(table: &[u8], query: &[u8], mut rows: usize) -> (Evaluated, Vec<u32>) {
+/// An answer and its row space.
+type Answer = (Evaluated, Vec<u32>);
+
+/// The last answer: in so many rows, or, as long as that is too small, in twice as many.
+fn evaluate(table: &[u8], query: &[u8], mean: bool, mut rows: usize) -> Answer {
     let mut tally = Tally::default();
     loop {
         let mut space = vec![0; rows * ROW_WORDS];
-        let answer = randwyler::evaluate(table, query, &mut space, tally);
+        let answer = randwyler::evaluate(table, query, mean, &mut space, tally);
         if answer.number != NO_ROOM || rows == MOST_ROWS {
             return (answer, space);
         }
@@ -81,8 +86,22 @@ fn evaluate(table: &[u8], query: &[u8], mut rows: usize) -> (Evaluated, Vec<u32>
     }
 }
 
+/// The answers to a query and to its rewriting, if there is one, by one choice and on a thread each.
+fn evaluate_both(table: &[u8], query: &[u8], rewriting: Option<&[u8]>, mean: bool, rows: usize) -> (Answer, Option<Answer>) {
+    thread::scope(|scope| {
+        let on_thread = |query| {
+            let stack = (STACK_EVALUATE_KIB + 64) * 1024; // the call's, and some for this program
+            let builder = thread::Builder::new().stack_size(stack);
+            builder.spawn_scoped(scope, move || evaluate(table, query, mean, rows)).expect("a thread")
+        };
+        let listing = on_thread(query);
+        let pushed = rewriting.map(|rewriting| on_thread(rewriting).join().expect("an answer"));
+        (listing.join().expect("an answer"), pushed)
+    })
+}
+
 /// Prints an answer and its rows.
-fn list(what: &str, (answer, space): &(Evaluated, Vec<u32>)) -> u8 {
+fn list(what: &str, (answer, space): &Answer) -> u8 {
     if answer.number != ANSWERED {
         println!("{what}: {}", refusal(answer.number, answer.place));
         return REFUSED;
@@ -95,9 +114,9 @@ fn list(what: &str, (answer, space): &(Evaluated, Vec<u32>)) -> u8 {
 }
 
 /// Prints totals by a variable, in the most rows, with an output that is never too short. Gives the tally back.
-fn list_totals(table: &[u8], query: &[u8], variable: u32, tally: Tally) -> Tally {
+fn list_totals(table: &[u8], query: &[u8], mean: bool, variable: u32, tally: Tally) -> Tally {
     let (mut space, mut output) = (vec![0; MOST_ROWS * ROW_WORDS], vec![0; MOST_TOTALS_WORDS]);
-    let answer = randwyler::totals_of(table, query, variable, &mut space, &mut output, tally);
+    let answer = randwyler::totals_of(table, query, mean, variable, &mut space, &mut output, tally);
     if answer.number != ANSWERED {
         println!("totals: {}", refusal(answer.number, answer.place));
         return answer.tally;
@@ -109,7 +128,7 @@ fn list_totals(table: &[u8], query: &[u8], variable: u32, tally: Tally) -> Tally
     answer.tally
 }
 
-fn run(table: &[u8], query: &[u8]) -> u8 {
+fn run(table: &[u8], query: &[u8], mean: bool) -> u8 {
     let check = randwyler::check(table, query);
     if check.number != ANSWERED {
         println!("{}", refusal(check.number, check.place));
@@ -122,18 +141,8 @@ fn run(table: &[u8], query: &[u8]) -> u8 {
 
     let mut output = [0; MOST_RESULT_BYTES];
     let rewritten = randwyler::rewrite(query, &mut output);
-    let result = &output[..rewritten.length as usize];
-
-    let (listed, pushed) = thread::scope(|scope| {
-        let on_thread = |query| {
-            let stack = (STACK_EVALUATE_KIB + 64) * 1024; // the call's, and some for this program
-            let builder = thread::Builder::new().stack_size(stack);
-            builder.spawn_scoped(scope, move || evaluate(table, query, rows)).expect("a thread")
-        };
-        let listing = on_thread(query);
-        let pushed = (rewritten.number == ANSWERED).then(|| on_thread(result).join().expect("an answer"));
-        (listing.join().expect("an answer"), pushed)
-    });
+    let rewriting = (rewritten.number == ANSWERED).then_some(&output[..rewritten.length as usize]);
+    let (listed, pushed) = evaluate_both(table, query, rewriting, mean, rows);
 
     let mut status = list("query", &listed);
     let mut tally = listed.0.tally;
@@ -147,21 +156,24 @@ fn run(table: &[u8], query: &[u8]) -> u8 {
     }
 
     // Of the rewriting, or of the query if it is too long to be rewritten.
-    let totalled = if rewritten.number == ANSWERED { result } else { query };
-    tally = list_totals(table, totalled, STRIKE, tally);
+    tally = list_totals(table, rewriting.unwrap_or(query), mean, STRIKE, tally);
     println!("tally: answered {} refused {}", tally.answered, tally.refused);
     status
 }
 
 fn main() -> ExitCode {
     let arguments: Vec<String> = env::args().skip(1).collect();
-    let [facts, query] = &arguments[..] else {
-        eprintln!("usage: embed FACTS QUERY");
-        return FAILED.into();
+    let (facts, query, mean) = match &arguments[..] {
+        [facts, query] => (facts, query, false),
+        [facts, query, choice] if choice == "mean" => (facts, query, true),
+        _ => {
+            eprintln!("usage: embed FACTS QUERY [mean]");
+            return FAILED.into();
+        }
     };
     let read = |path: &String| fs::read(path).map_err(|_| eprintln!("embed: cannot read {path}"));
     match (read(facts), read(query)) {
-        (Ok(facts), Ok(query)) => run(&facts, &query).into(),
+        (Ok(facts), Ok(query)) => run(&facts, &query, mean).into(),
         _ => FAILED.into(),
     }
 }

@@ -8,6 +8,7 @@ mod fence;
 mod ffi;
 mod inputs;
 mod limits;
+mod means;
 mod paper;
 mod queries;
 mod random;

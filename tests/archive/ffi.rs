@@ -3,7 +3,7 @@
 #[path = "../../include/randwyler.rs"]
 mod randwyler;
 
-use crate::paper::{Ceiling, Evaluated, Refusal, Rewritten, Tally, Totalled};
+use crate::paper::{Ceiling, Choice, Evaluated, Inputs, Refusal, Rewritten, Tally, Totalled};
 use randwyler::raw::{randwyler_ceiling_of, randwyler_check, randwyler_evaluate, randwyler_rewrite, randwyler_totals_of};
 
 /// The pointer and length of a slice; none is NULL with length 0.
@@ -53,19 +53,33 @@ pub fn ceiling(table: &[u8], query: &[u8]) -> Ceiling {
     ceiling_or_null(Some(table), Some(query))
 }
 
+/// What is evaluated, with NULL for none.
+pub type OrNull<'a> = (Option<&'a [u8]>, Option<&'a [u8]>, Choice);
+
+fn lent((table, query, choice): Inputs) -> OrNull {
+    (Some(table), Some(query), choice)
+}
+
+/// The calls' parameter for a choice.
+fn is_mean(choice: Choice) -> bool {
+    match choice {
+        Choice::Least => false,
+        Choice::Mean => true,
+    }
+}
+
 /// `randwyler_evaluate` with NULL for none, in a row space by its pointer and length.
 ///
 /// # Safety
 /// The row space is ours to write, or NULL with length 0.
 unsafe fn evaluate_at(
-    table: Option<&[u8]>,
-    query: Option<&[u8]>,
+    (table, query, choice): OrNull,
     (space, space_len): (*mut u32, usize),
     Tally { answered, refused }: Tally,
 ) -> Evaluated {
     let ((table, table_len), (query, query_len)) = (parts(table), parts(query));
     let tally = randwyler::Tally { answered, refused };
-    let answer = randwyler_evaluate(table, table_len, query, query_len, space, space_len, tally);
+    let answer = randwyler_evaluate(table, table_len, query, query_len, is_mean(choice), space, space_len, tally);
     let randwyler::Tally { answered, refused } = answer.tally;
     Evaluated {
         refusal: Refusal { number: answer.number, place: answer.place },
@@ -77,20 +91,20 @@ unsafe fn evaluate_at(
 }
 
 /// `randwyler_evaluate`, with NULL for none.
-pub fn evaluate_or_null(table: Option<&[u8]>, query: Option<&[u8]>, space: Option<&mut [u32]>, tally: Tally) -> Evaluated {
+pub fn evaluate_or_null(inputs: OrNull, space: Option<&mut [u32]>, tally: Tally) -> Evaluated {
     // SAFETY: the pointers are NULL with length 0 or a slice's own; table and query are only read, and the space is lent.
-    unsafe { evaluate_at(table, query, parts_mut(space), tally) }
+    unsafe { evaluate_at(inputs, parts_mut(space), tally) }
 }
 
-pub fn evaluate(table: &[u8], query: &[u8], space: &mut [u32], tally: Tally) -> Evaluated {
-    evaluate_or_null(Some(table), Some(query), Some(space), tally)
+pub fn evaluate(inputs: Inputs, space: &mut [u32], tally: Tally) -> Evaluated {
+    evaluate_or_null(lent(inputs), Some(space), tally)
 }
 
 /// `randwyler_evaluate` in a row space that nobody has written, and what then stands in it; none on the refusals 1 to 7.
-pub fn evaluate_unwritten(table: &[u8], query: &[u8], words: usize, tally: Tally) -> (Evaluated, Option<Vec<u32>>) {
+pub fn evaluate_unwritten(inputs: Inputs, words: usize, tally: Tally) -> (Evaluated, Option<Vec<u32>>) {
     let mut space = Vec::with_capacity(words);
     // SAFETY: the space has room for so many words.
-    let answer = unsafe { evaluate_at(Some(table), Some(query), (space.as_mut_ptr(), words), tally) };
+    let answer = unsafe { evaluate_at(lent(inputs), (space.as_mut_ptr(), words), tally) };
     if (randwyler::TABLE_LENGTH..randwyler::NO_ROOM).contains(&answer.refusal.number) {
         return (answer, None);
     }
@@ -104,7 +118,7 @@ pub fn evaluate_unwritten(table: &[u8], query: &[u8], words: usize, tally: Tally
 /// # Safety
 /// Row space and output are ours to write, or NULL with length 0.
 unsafe fn totals_at(
-    (table, query): (Option<&[u8]>, Option<&[u8]>),
+    (table, query, choice): OrNull,
     variable: u32,
     (space, space_len): (*mut u32, usize),
     (output, output_len): (*mut u32, usize),
@@ -112,8 +126,9 @@ unsafe fn totals_at(
 ) -> Totalled {
     let ((table, table_len), (query, query_len)) = (parts(table), parts(query));
     let tally = randwyler::Tally { answered, refused };
+    let mean = is_mean(choice);
     let answer =
-        randwyler_totals_of(table, table_len, query, query_len, variable, space, space_len, output, output_len, tally);
+        randwyler_totals_of(table, table_len, query, query_len, mean, variable, space, space_len, output, output_len, tally);
     let randwyler::Tally { answered, refused } = answer.tally;
     Totalled {
         refusal: Refusal { number: answer.number, place: answer.place },
@@ -124,7 +139,7 @@ unsafe fn totals_at(
 
 /// `randwyler_totals_of`, with NULL for none.
 pub fn totals_or_null(
-    inputs: (Option<&[u8]>, Option<&[u8]>),
+    inputs: OrNull,
     variable: u32,
     space: Option<&mut [u32]>,
     output: Option<&mut [u32]>,
@@ -134,22 +149,22 @@ pub fn totals_or_null(
     unsafe { totals_at(inputs, variable, parts_mut(space), parts_mut(output), tally) }
 }
 
-pub fn totals(table: &[u8], query: &[u8], variable: u32, space: &mut [u32], output: &mut [u32], tally: Tally) -> Totalled {
-    totals_or_null((Some(table), Some(query)), variable, Some(space), Some(output), tally)
+pub fn totals(inputs: Inputs, variable: u32, space: &mut [u32], output: &mut [u32], tally: Tally) -> Totalled {
+    totals_or_null(lent(inputs), variable, Some(space), Some(output), tally)
 }
 
 /// `randwyler_totals_of` in a row space and with an output that nobody has written; what then stands in the row space, none where it is
 /// left as it was; and the entries.
 pub fn totals_unwritten(
-    (table, query): (&[u8], &[u8]),
+    inputs: Inputs,
     variable: u32,
     [words, room]: [usize; 2],
     tally: Tally,
 ) -> (Totalled, Option<Vec<u32>>, Vec<u32>) {
     let (mut space, mut output) = (Vec::with_capacity(words), Vec::with_capacity(room));
-    let lent = ((space.as_mut_ptr(), words), (output.as_mut_ptr(), room));
+    let parts = ((space.as_mut_ptr(), words), (output.as_mut_ptr(), room));
     // SAFETY: both have room for so many words.
-    let answer = unsafe { totals_at((Some(table), Some(query)), variable, lent.0, lent.1, tally) };
+    let answer = unsafe { totals_at(lent(inputs), variable, parts.0, parts.1, tally) };
     assert!(answer.length <= room as u64, "an answer of {} words in an output of {room}", answer.length);
     // SAFETY: an answer writes so many words; valgrind sees it if it does not.
     unsafe { output.set_len(answer.length as usize) };

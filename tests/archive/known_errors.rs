@@ -1,13 +1,11 @@
 //! Left joins whose condition errs, with rows, peak and pairs written down by hand from request 3 of document 02: where no merge makes
-//! the condition true, the left row stands, one time and with its own trust.
+//! the condition true, the left row stands, one time and with its own trust. Every set has one pattern: all is the same by either choice.
 
-use crate::ffi;
-use crate::known_rows::Store;
-use crate::paper::{refusal, Evaluated, Tally, NONE};
+use crate::known_rows::{self, Store};
+use crate::paper::Choice;
 use crate::printed;
-use crate::push::MOST_RESULT;
-use crate::report::{hex, Report};
-use crate::rows::{Row, Trust, Value, ROW_WORDS};
+use crate::report::Report;
+use crate::rows::{Row, Trust, Value};
 use crate::tables;
 use crate::vectors;
 
@@ -26,8 +24,8 @@ const KEPT: [&str; 3] = ["600 ?0=1", "? ?0=2", "-200 ?0=3"];
 /// What a left join is about, its condition and its rows.
 type Known<'a> = (&'a str, &'a str, &'a [&'a str]);
 
-fn store(report: &mut Report) -> Store<'_> {
-    Store::new(tables::facts(&FACTS), report)
+fn store(report: &mut Report, choice: Choice) -> Store<'_> {
+    Store::new(tables::facts(&FACTS), choice, report)
 }
 
 fn test(store: &mut Store, what: &str, query: &str, rows: &[&str], [peak, pairs]: [u64; 2]) {
@@ -42,8 +40,8 @@ fn test_three_by_three(store: &mut Store, known: &[Known], left: &str, right: &s
 }
 
 /// Errors of free cells and terms, and what not, and, or make of them.
-pub fn conditions(report: &mut Report) {
-    let mut store = store(report);
+pub fn conditions(report: &mut Report, choice: Choice) {
+    let mut store = store(report, choice);
     let errors: [Known; 15] = [
         ("same of a free cell", "10 07", &KEPT),
         ("same of a free cell, the other order", "17 00", &KEPT),
@@ -85,7 +83,7 @@ pub fn conditions(report: &mut Report) {
 }
 
 /// Errors of unknown trusts: ?14 has the trust of the left row, ?15 that of the right row.
-pub fn trusts(report: &mut Report) {
+pub fn trusts(report: &mut Report, choice: Choice) {
     let [one, two, three] = ["600 ?0=1 ?14=t600", "? ?0=2 ?14=t?", "-200 ?0=3 ?14=t-200"];
     let [five, six] = ["100 ?0=1 ?1=5 ?14=t600 ?15=t100", "? ?0=1 ?1=6 ?14=t600 ?15=t?"];
     let of_two = "? ?0=2 ?1=5 ?14=t? ?15=t700";
@@ -102,12 +100,12 @@ pub fn trusts(report: &mut Report) {
         ("not of is-term of a left trust", "40 2e 000005", &[five, six, two, three]),
         ("bound, which never errs", "0f", &[five, six, of_two, three]),
     ];
-    test_three_by_three(&mut store(report), &known, "5e A", "5f B");
+    test_three_by_three(&mut store(report, choice), &known, "5e A", "5f B");
 }
 
 /// Left rows that stand several times on the left, and merges that do on the right.
-pub fn repeated(report: &mut Report) {
-    let mut store = store(report);
+pub fn repeated(report: &mut Report, choice: Choice) {
+    let mut store = store(report, choice);
     let twice = [KEPT, KEPT].concat();
     test(&mut store, "every left row twice", "20 10 07 30 A A B", &twice, [15, 18]);
     // The union holds six rows, of which the filter keeps two.
@@ -132,8 +130,8 @@ pub fn repeated(report: &mut Report) {
 }
 
 /// Left joins in operands of others, and below filters.
-pub fn nested(report: &mut Report) {
-    let mut store = store(report);
+pub fn nested(report: &mut Report, choice: Choice) {
+    let mut store = store(report, choice);
     let (inner, some_true) = ("20 10 07 A B", "20 60 21 000006 10 07 A B");
     for (what, query, rows, counts) in [
         // The inner one has space 9, pairs 9 and the rows `KEPT`.
@@ -197,39 +195,19 @@ const REWRITINGS: [Rewriting; 6] = [
 ];
 
 /// Queries under a bound and their rewritings list alike.
-pub fn rewritings(report: &mut Report) {
-    let mut store = store(report);
-    for (what, [query, rewriting], rows, [counts, of_rewriting]) in REWRITINGS {
-        let mut output = [0; MOST_RESULT];
-        let answer = ffi::rewrite(&vectors::query(query), &mut output);
-        let got = &output[..answer.length as usize];
-        let right = answer.refusal == NONE && got == vectors::query(rewriting);
-        store.report.case(right, || format!("errors, {what}: rewritten to {}", hex(got)));
-        test(&mut store, what, query, rows, counts);
-        test(&mut store, &format!("{what}, rewritten"), rewriting, rows, of_rewriting);
+pub fn rewritings(report: &mut Report, choice: Choice) {
+    let mut store = store(report, choice);
+    for (what, queries, rows, counts) in REWRITINGS {
+        store.test_rewriting(&format!("errors, {what}"), queries, &printed::rows(rows), counts);
     }
 }
 
 /// One left row that stands by an error, beside one right row, needs three rows of space: 51 words, each written down.
-pub fn words(report: &mut Report) {
-    const NEEDED: usize = 3 * ROW_WORDS;
+pub fn words(report: &mut Report, choice: Choice) {
     let table = tables::facts(&[([1, 10, 5], Some(100)), ([1, 20, 21], Some(600))]);
     let query = vectors::query("20 10 07 A B");
     let row = [1, 0, 0, 0, 0, 0, 0, 0, 0, 0, 0, 0, 0, 0, 0, 0, 1_600];
-    for words in [0, 16, 17, 33, 34, 50, 51, 52, 67, 68, 85, 1_000] {
-        let mut space = vec![0xA5A5_A5A5; words];
-        let got = ffi::evaluate(&table, &query, &mut space, Tally { answered: 3, refused: 8 });
-        let (expected, mut after) = if words < NEEDED {
-            let tally = Tally { answered: 3, refused: 9 };
-            (Evaluated { refusal: refusal(8, 0), rows: 0, peak: 0, pairs: 0, tally }, vec![])
-        } else {
-            let tally = Tally { answered: 4, refused: 8 };
-            (Evaluated { refusal: NONE, rows: 1, peak: 3, pairs: 1, tally }, row.to_vec())
-        };
-        after.resize(words, 0);
-        report.evaluate("errors, word by word", (&table, &query), words, expected, got);
-        report.case(space == after, || format!("errors, wrong words in {words}: {space:?}"));
-    }
+    known_rows::test_words(report, "errors, word by word", (&table, &query, choice), [3, 1], row);
 }
 
 // ---- Sequences of truths
@@ -275,8 +253,8 @@ fn of_sequence(subject: u32, sequence: &str, [of_true, of_false]: [i32; 2]) -> (
 }
 
 /// A left row for each sequence: each in a left join alone, all in one, which has many pairs, and each twice in one.
-pub fn in_every_order(report: &mut Report) {
-    let (mut store, sequences) = (Store::new(vec![], report), sequences());
+pub fn in_every_order(report: &mut Report, choice: Choice) {
+    let (mut store, sequences) = (Store::new(vec![], choice, report), sequences());
     for (condition, of_true, of_false) in COMPARED {
         let query = format!("20 {condition} 5e A 5f B");
         let (mut facts, mut rows, mut right) = (Vec::new(), Vec::new(), 0);

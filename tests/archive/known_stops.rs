@@ -1,7 +1,7 @@
 //! Pattern sets with subjects that are named or free, and their ceilings, where the rows are written down by hand.
 
 use crate::ceilings;
-use crate::paper::{Ceiling, NONE};
+use crate::paper::{Ceiling, Choice, NONE};
 use crate::printed;
 use crate::report::Report;
 use crate::rows::{self, Evaluation, Outcome, Row, Trust};
@@ -19,21 +19,22 @@ pub type Fact = ([u32; 3], Trust);
 pub struct Store<'a> {
     pub facts: Vec<Fact>,
     table: Vec<u8>,
+    pub choice: Choice,
     spaces: &'a mut Spaces,
     report: &'a mut Report,
 }
 
 impl Store<'_> {
-    pub fn new<'a>(facts: Vec<Fact>, spaces: &'a mut Spaces, report: &'a mut Report) -> Store<'a> {
-        Store { table: tables::facts(&facts), facts, spaces, report }
+    pub fn new<'a>(facts: Vec<Fact>, choice: Choice, spaces: &'a mut Spaces, report: &'a mut Report) -> Store<'a> {
+        Store { table: tables::facts(&facts), facts, choice, spaces, report }
     }
 
     /// Tests both calls with a query: the evaluation in row spaces that are just too short and just long enough, and another.
     fn test(&mut self, what: &str, query: &str, evaluation: Evaluation, ceiling: u32) {
         let query = vectors::query(query);
-        let (inputs, ceiling) = ((&self.table[..], &query[..]), Ceiling { refusal: NONE, ceiling });
+        let (inputs, ceiling) = ((&self.table[..], &query[..], self.choice), Ceiling { refusal: NONE, ceiling });
         if self.facts.len() <= FEW_RECORDS {
-            let read = rows::evaluate(&self.table, &query);
+            let read = rows::evaluate(inputs);
             let agrees = matches!(&read, Outcome::Rows(read) if *read == evaluation);
             self.report.case(agrees, || format!("{what}: rows.rs has {read:?}"));
             let read = ceilings::ceiling(&self.table, &query);
@@ -44,7 +45,7 @@ impl Store<'_> {
         for words in [lengths[0], lengths[1], self.spaces.0.random.pick(&lengths[2..])] {
             self.spaces.test(self.report, what, inputs, &outcome, words);
         }
-        ceilings::test(self.report, &mut self.spaces.0.random, what, inputs, ceiling);
+        ceilings::test(self.report, &mut self.spaces.0.random, what, (&self.table, &query), ceiling);
     }
 
     /// The same of a pattern set, which needs as much space as it has rows.
@@ -204,7 +205,7 @@ const FREE: [Known; 6] = [
 
 pub fn sets(report: &mut Report) {
     let mut spaces = Spaces::new(3);
-    let mut store = Store::new(FACTS.to_vec(), &mut spaces, report);
+    let mut store = Store::new(FACTS.to_vec(), Choice::Least, &mut spaces, report);
     for (sort, known) in [
         ("named", &NAMED[..]),
         ("bound", &BOUND),
@@ -222,7 +223,7 @@ pub fn sets(report: &mut Report) {
 pub fn greatest_term(report: &mut Report) {
     let facts = [([LAST_TERM - 2, 1, LAST_TERM], Some(10)), ([LAST_TERM, 1, 5], None), ([LAST_TERM; 3], Some(-1_000))];
     let mut spaces = Spaces::new(4);
-    let mut store = Store::new(facts.to_vec(), &mut spaces, report);
+    let mut store = Store::new(facts.to_vec(), Choice::Least, &mut spaces, report);
     for (what, patterns, rows, ceiling) in [
         ("one less", "1048574 ?0 ?1", &[][..], 0),
         ("itself", "1048575 ?0 ?1", &["? ?0=1 ?1=5", "-1000 ?0=1048575 ?1=1048575"], 2),
@@ -236,7 +237,7 @@ pub fn greatest_term(report: &mut Report) {
 /// Sets in other nodes: what the set of one operand names is nothing to that of the other.
 pub fn other_nodes(report: &mut Report) {
     let mut spaces = Spaces::new(5);
-    let mut store = Store::new(FACTS.to_vec(), &mut spaces, report);
+    let mut store = Store::new(FACTS.to_vec(), Choice::Least, &mut spaces, report);
     for (what, node, sets, rows, [space, pairs, ceiling]) in [
         (
             "a join, the right subject in the left rows",

@@ -1,12 +1,12 @@
-//! Totals whose entries are written down by hand.
+//! Totals whose entries are written down by hand. Where every set has at most one pattern they are the same by either choice.
 
 use crate::groups::{Totals, GROUP_WORDS};
 use crate::outputs::Outputs;
-use crate::paper::VARIABLES;
+use crate::paper::{Choice, CHOICES, VARIABLES};
 use crate::report::Report;
 use crate::rows;
 use crate::tables;
-use crate::vectors;
+use crate::vectors::{self, set};
 
 /// The cells of trusts -1000 and unknown.
 const LEAST_TRUST: u32 = 1_048_576;
@@ -28,14 +28,20 @@ impl Store<'_> {
         Store { table, outputs: Outputs::new(1), report }
     }
 
-    /// Tests totals of a variable in row spaces and with outputs of all awkward lengths.
-    fn test(&mut self, what: &str, query: &str, variable: u32, entries: &[Entry]) {
+    /// Tests totals of a variable by a choice, in row spaces and with outputs of all awkward lengths.
+    fn test_by(&mut self, choice: Choice, what: &str, query: &str, variable: u32, entries: &[Entry]) {
         let query = vectors::query(query);
-        let outcome = rows::evaluate(&self.table, &query);
+        let inputs = (&self.table[..], &query[..], choice);
+        let outcome = rows::evaluate(inputs);
         let totals = Totals::new(&outcome, variable);
         let read = totals.entries();
         self.report.case(read == entries.concat(), || format!("{what}: groups.rs has {read:?}"));
-        self.outputs.test_lengths(self.report, what, (&self.table, &query), &totals);
+        self.outputs.test_lengths(self.report, what, inputs, &totals);
+    }
+
+    /// The same entries by either choice.
+    fn test(&mut self, what: &str, query: &str, variable: u32, entries: &[Entry]) {
+        CHOICES.into_iter().for_each(|choice| self.test_by(choice, what, query, variable, entries));
     }
 }
 
@@ -147,6 +153,87 @@ pub fn errors(report: &mut Report) {
     let compared = |condition: &str| format!("20 {condition} A 5f {C}");
     store.test("an unknown trust beside a true", &compared("1f 0f"), 15, &[[LEAST_TRUST + 1_250, 1, 600]]);
     store.test("an unknown trust beside a false", &compared("3f 0f"), 15, &[[0, 1, 600]]);
+}
+
+/// Two trusts for each row of `FOUR`, as (?1, ?2): (5, 7) 900 100, (5, 8) 900 800, (6, 7) 300 100, (6, 8) 300 800. So the means are 500,
+/// 850, 200 and 550, and so are those of `REPEATED`. Of `SECOND` they are 350 and unknown, of `EQUAL` 500 both times. The rows of `BELOW`,
+/// (5, 5), (5, 6), (6, 5) and (6, 6), use one record, two, two and one: the means are -5, -503, -503 and -1000.
+const MEANS: [([u32; 3], Option<i32>); 13] = [
+    ([1, 10, 5], Some(900)),
+    ([1, 10, 6], Some(300)),
+    ([1, 20, 7], Some(100)),
+    ([1, 20, 8], Some(800)),
+    ([2, 30, 5], Some(700)),
+    ([2, 30, 6], None),
+    ([2, 40, 7], Some(0)),
+    ([3, 50, 5], Some(900)),
+    ([3, 50, 6], Some(600)),
+    ([3, 60, 5], Some(100)),
+    ([3, 60, 6], Some(400)),
+    ([4, 70, 5], Some(-5)),
+    ([4, 70, 6], Some(-1_000)),
+];
+const FOUR: &str = "?0 10 ?1, ?0 20 ?2";
+const REPEATED: &str = "?0 10 ?1, ?0 20 ?2, 1 10 ?1";
+const SECOND: &str = "?0 30 ?1, ?0 40 ?2";
+const EQUAL: &str = "?0 50 ?1, ?0 60 ?1";
+const BELOW: &str = "?0 70 ?1, ?0 70 ?2";
+
+/// What totals are about, the nodes above a set, the set, the variable, and the entries by mean and by least.
+type ByChoice<'a> = (&'a str, &'a str, &'a str, u32, &'a [Entry], &'a [Entry]);
+
+fn test_choices(report: &mut Report, known: &[ByChoice]) {
+    let mut store = Store::new(tables::facts(&MEANS), report);
+    for (what, above, patterns, variable, by_mean, by_least) in known {
+        let query = format!("{above} {}", set(patterns));
+        store.test_by(Choice::Mean, &format!("{what}, by mean"), &query, *variable, by_mean);
+        store.test_by(Choice::Least, &format!("{what}, by least"), &query, *variable, by_least);
+    }
+}
+
+/// The trust of an entry is the least of its rows' trusts, also where these are means.
+pub fn means(report: &mut Report) {
+    // {2 30 5} has one row, 700. The filters leave the rows (5, 8) and (6, 8).
+    let (of_700, eight) = ("01 000002 00001e 000005", "40 22 000008");
+    let [greater, lesser] = [5, 6].map(|term| format!("10 {of_700} 40 21 00000{term} {eight}"));
+    test_choices(
+        report,
+        &[
+            // The mean of the four means, and that of the four records, is 525.
+            ("one group of four means", "", FOUR, 0, &[[1, 4, 1_200]], &[[1, 4, 1_100]]),
+            ("by the first record", "", FOUR, 1, &[[5, 2, 1_500], [6, 2, 1_200]], &[[5, 2, 1_100], [6, 2, 1_100]]),
+            ("by the second record", "", FOUR, 2, &[[7, 2, 1_200], [8, 2, 1_550]], &[[7, 2, 1_100], [8, 2, 1_300]]),
+            ("a record twice", "", REPEATED, 1, &[[5, 2, 1_500], [6, 2, 1_200]], &[[5, 2, 1_100], [6, 2, 1_100]]),
+            ("an unknown mean", "", SECOND, 0, &[[2, 2, UNKNOWN]], &[[2, 2, UNKNOWN]]),
+            ("unknown apart", "", SECOND, 1, &[[5, 1, 1_350], [6, 1, UNKNOWN]], &[[5, 1, 1_000], [6, 1, UNKNOWN]]),
+            ("means below 0", "", BELOW, 1, &[[5, 2, 497], [6, 2, 0]], &[[5, 2, 0], [6, 2, 0]]),
+            // 500, 850 and 550; of the least 800 alone.
+            ("a bound of 500 to 1000", "E", FOUR, 0, &[[1, 3, 1_500]], &[[1, 1, 1_800]]),
+            ("a merge of 700 with a greater mean", &greater, FOUR, 0, &[[1, 1, 1_700]], &[[1, 1, 1_700]]),
+            ("a merge of 700 with a lesser mean", &lesser, FOUR, 0, &[[1, 1, 1_550]], &[[1, 1, 1_300]]),
+        ],
+    );
+}
+
+/// Groups by cells of means.
+pub fn cells_of_means(report: &mut Report) {
+    let cell = |trust: u32| LEAST_TRUST + trust;
+    let own = |trust: u32| [cell(trust), 1, trust];
+    test_choices(
+        report,
+        &[
+            ("two equal means", "5f", EQUAL, 15, &[[cell(1_500), 2, 1_500]], &[own(1_100), own(1_400)]),
+            ("means below 0", "5f", BELOW, 15, &[own(995), [cell(497), 2, 497], own(0)], &[own(995), [cell(0), 3, 0]]),
+            (
+                "an unknown mean",
+                "5f",
+                SECOND,
+                15,
+                &[own(1_350), [UNKNOWN_CELL, 1, UNKNOWN]],
+                &[own(1_000), [UNKNOWN_CELL, 1, UNKNOWN]],
+            ),
+        ],
+    );
 }
 
 /// One row, no row, and cells and trusts at their ends.

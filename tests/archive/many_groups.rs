@@ -1,4 +1,5 @@
-//! Totals of as many rows as a row space may have: one group, a group for each row, and between.
+//! Totals of as many rows as a row space may have: one group, a group for each row, and between. Every set has one pattern, so that the
+//! choice does not matter: it is drawn.
 
 use crate::groups::Totals;
 use crate::outputs::Outputs;
@@ -72,7 +73,8 @@ impl Tester<'_> {
     /// Tests totals of 65,535 rows, in row spaces and with outputs that are just long enough and a word too short, and longer ones.
     fn test(&mut self, what: &str, (table, query): (&[u8], &str), variable: u32, groups: usize, least: Option<Trust>) {
         let query = vectors::query(query);
-        let outcome = rows::evaluate(table, &query);
+        let inputs = (table, &query[..], self.outputs.spaces.choice());
+        let outcome = rows::evaluate(inputs);
         let totals = Totals::of_many(&outcome, variable);
         let rows: usize = totals.groups.iter().map(|group| group.trusts.len()).sum();
         let agrees = rows == MOST_ROWS && totals.groups.len() == groups;
@@ -80,9 +82,9 @@ impl Tester<'_> {
         self.report.case(agrees, || format!("{what}: groups.rs has {} groups of {rows} rows", totals.groups.len()));
         let (words, needed) = (MOST_ROWS * ROW_WORDS, totals.needed());
         for lengths in [[words, needed], [words, needed - 1], [words - 1, needed], [words + 20, needed + 3]] {
-            self.outputs.test(self.report, what, (table, &query), &totals, lengths);
+            self.outputs.test(self.report, what, inputs, &totals, lengths);
         }
-        self.outputs.test_beside(self.report, what, (table, &query), variable, [words, needed]);
+        self.outputs.test_beside(self.report, what, inputs, variable, [words, needed]);
     }
 }
 

@@ -5,7 +5,7 @@
 use crate::compared::Compared;
 use crate::conditions::Truth;
 use crate::left_rows;
-use crate::paper::{self, refusal, Kind, Node, Record, Slot, CHECK_LIMIT};
+use crate::paper::{self, refusal, Choice, Inputs, Kind, Node, Record, Slot, CHECK_LIMIT};
 use crate::random::Random;
 use crate::report::Report;
 use crate::rows::{self, Evaluation, Outcome, Row, Seen, Trust, Value, MOST_ROWS};
@@ -64,14 +64,14 @@ impl Store<'_> {
     fn test_outcome(&mut self, what: &str, query: &[u8], outcome: &Outcome) {
         let lengths = spaces::lengths(outcome);
         for words in [lengths[0], lengths[1], self.random.pick(&lengths[2..])] {
-            self.spaces.test(self.report, what, (&self.table, query), outcome, words);
+            self.spaces.test(self.report, what, (&self.table, query, Choice::Least), outcome, words);
         }
     }
 
     /// Tests a query by rows.rs; answers how many pairs it has.
     fn test(&mut self, what: &str, query: &str) -> u64 {
         let query = vectors::query(query);
-        let outcome = rows::evaluate(&self.table, &query);
+        let outcome = rows::evaluate((&self.table, &query, Choice::Least));
         self.test_outcome(what, &query, &outcome);
         match outcome {
             Outcome::Rows(evaluation) => evaluation.pairs,
@@ -89,7 +89,7 @@ impl Store<'_> {
 }
 
 /// Trusts of facts, some unknown.
-fn trust_of(i: u32) -> Trust {
+pub fn trust_of(i: u32) -> Trust {
     (i % 7 != 3).then_some((i * 37 % 2_001) as i32 - 1_000)
 }
 
@@ -349,7 +349,7 @@ pub fn twenty_thousand(report: &mut Report) {
             let evaluation = Evaluation { space: a + b + listed.len(), rows: listed, pairs: a as u64 * b as u64 };
             let (query, outcome) = (vectors::query(&query), Outcome::Rows(evaluation));
             for words in &spaces::lengths(&outcome)[..2] {
-                store.spaces.test(store.report, &what, (&store.table, &query), &outcome, *words);
+                store.spaces.test(store.report, &what, (&store.table, &query, Choice::Least), &outcome, *words);
             }
         }
     }
@@ -498,14 +498,16 @@ fn keys(left: &[Row], right: &[Row]) -> usize {
 }
 
 /// The rows of a join's operands, evaluated alone; none if one has too many. The join may stand under an ensure trust.
-fn operands(table: &[u8], query: &[u8]) -> Option<[Vec<Row>; 2]> {
+fn operands((table, query, choice): Inputs) -> Option<[Vec<Row>; 2]> {
     let node = match paper::query(query, CHECK_LIMIT) {
         Ok(Node { kind: Kind::Ensure(_, _, operand), .. }) => *operand,
         Ok(node) => node,
         Err(_) => panic!("a query that is refused"),
     };
     let (Kind::Join(left, right) | Kind::LeftJoin(_, left, right)) = node.kind else { panic!("not a join") };
-    let rows_of = |query: &[u8]| match rows::evaluate_within(table, query, MOST_SPACE, MOST_STEPS, &mut Seen::default()) {
+    let evaluate =
+        |query: &[u8]| rows::evaluate_within((table, query, choice), MOST_SPACE, MOST_STEPS, &mut Seen::default());
+    let rows_of = |query: &[u8]| match evaluate(query) {
         Some(Outcome::Rows(evaluation)) => Some(evaluation.rows),
         _ => None,
     };
@@ -519,19 +521,19 @@ pub fn random_cases(report: &mut Report) {
     let (mut many, mut many_with_rows, mut by_keys, mut above, mut left_out) = (0, 0, [0; KEYS.len()], 0, 0);
     for number in 0..RANDOM_CASES {
         let (table, query) = random_inputs(&mut random);
-        let mut here = Seen::default();
-        let Some(outcome) = rows::evaluate_within(&table, &query, MOST_SPACE, MOST_STEPS, &mut here) else {
+        let (inputs, mut here) = ((&table[..], &query[..], spaces.choice()), Seen::default());
+        let Some(outcome) = rows::evaluate_within(inputs, MOST_SPACE, MOST_STEPS, &mut here) else {
             left_out += 1;
             continue;
         };
         let what = format!("random case {number} with many rows");
         let lengths = spaces::lengths(&outcome);
         for words in [lengths[0], lengths[1], random.pick(&lengths[2..])] {
-            spaces.test(report, &what, (&table, &query), &outcome, words);
+            spaces.test(report, &what, inputs, &outcome, words);
         }
-        compared.test(report, &mut spaces, &what, (&table, &query), lengths[1]);
+        compared.test(report, &mut spaces, &what, inputs, lengths[1]);
         above += u64::from(matches!(outcome, Outcome::Above(_)));
-        let Some([left, right]) = operands(&table, &query) else { continue };
+        let Some([left, right]) = operands(inputs) else { continue };
         if (left.len() * right.len()) as u64 >= MANY_PAIRS {
             many += 1;
             if let Outcome::Rows(evaluation) = &outcome {
@@ -551,4 +553,7 @@ pub fn random_cases(report: &mut Report) {
         report.case(count >= 50, || format!("only {count} random joins with keys {keys}"));
     }
     left_rows::enough(report, &seen, "random joins with many pairs", 1_000);
+    let not_least = seen.means.known[0];
+    println!("means in random joins with many pairs that are not the least: {not_least}");
+    report.case(not_least >= 1_000, || "too few means in random joins with many pairs are not the least".to_string());
 }

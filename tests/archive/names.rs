@@ -1,10 +1,11 @@
 //! Tests the names of include/randwyler.rs, which tests/embed/run holds to those of the header: the calls give each refusal under its
-//! name, and take and write what the sizes say. The last line is 'N passed, M failed'.
+//! name, take and write what the sizes say, and have the choice of least or mean. The last line is 'N passed, M failed'.
 
 mod chains;
 mod conditions;
 mod groups;
 mod limits;
+mod means;
 mod paper;
 mod push;
 mod random;
@@ -19,6 +20,9 @@ use randwyler::*;
 use report::Report;
 
 const TALLY: Tally = Tally { answered: 0, refused: 0 };
+/// The calls' parameter `mean`.
+const LEAST: bool = false;
+const MEAN: bool = true;
 
 /// Counts a case about a number that a call gives.
 fn number(report: &mut Report, what: &str, expected: u32, got: u32) {
@@ -30,15 +34,17 @@ fn all_but_rewrite(report: &mut Report, what: &str, expected: u32, table: &[u8],
     let (mut space, mut output) = (vec![0; MOST_ROWS * ROW_WORDS], vec![0; MOST_TOTALS_WORDS]);
     number(report, &format!("check, {what}"), expected, check(table, query).number);
     number(report, &format!("ceiling, {what}"), expected, ceiling_of(table, query).number);
-    number(report, &format!("evaluation, {what}"), expected, evaluate(table, query, &mut space, TALLY).number);
-    let totalled = totals_of(table, query, 0, &mut space, &mut output, TALLY);
-    number(report, &format!("totals, {what}"), expected, totalled.number);
+    for mean in [LEAST, MEAN] {
+        number(report, &format!("evaluation, {what}"), expected, evaluate(table, query, mean, &mut space, TALLY).number);
+        let totalled = totals_of(table, query, mean, 0, &mut space, &mut output, TALLY);
+        number(report, &format!("totals, {what}"), expected, totalled.number);
+    }
 }
 
-/// An evaluation in a row space of so many words, and what then stands in it.
+/// An evaluation by least in a row space of so many words, and what then stands in it.
 fn in_words(table: &[u8], query: &[u8], words: usize) -> (Evaluated, Vec<u32>) {
     let mut space = vec![7; words];
-    (evaluate(table, query, &mut space, TALLY), space)
+    (evaluate(table, query, LEAST, &mut space, TALLY), space)
 }
 
 /// Every refusal of every call that has it.
@@ -107,13 +113,13 @@ fn row_spaces(report: &mut Report) {
     }
 }
 
-/// The totals of a variable in a row space for the most rows, with an output of so many words.
+/// The totals of a variable by least in a row space for the most rows, with an output of so many words.
 fn in_room(table: &[u8], query: &[u8], variable: usize, room: usize) -> Totalled {
-    totals_of(table, query, variable as u32, &mut vec![7; MOST_ROWS * ROW_WORDS], &mut vec![7; room], TALLY)
+    totals_of(table, query, LEAST, variable as u32, &mut vec![7; MOST_ROWS * ROW_WORDS], &mut vec![7; room], TALLY)
 }
 
 fn outputs(report: &mut Report) {
-    let no_room = totals_of(&[], &[0x00], 0, &mut [7; ROW_WORDS - 1], &mut [7; GROUP_WORDS], TALLY);
+    let no_room = totals_of(&[], &[0x00], LEAST, 0, &mut [7; ROW_WORDS - 1], &mut [7; GROUP_WORDS], TALLY);
     number(report, "totals, no row space", NO_ROOM, no_room.number);
     let variable = in_room(&[], &[0x00], VARIABLES, GROUP_WORDS);
     number(report, "totals, a variable behind the last", BAD_TOTALS, variable.number);
@@ -151,8 +157,44 @@ fn words(report: &mut Report) {
         let right = (answer.number, answer.rows) == (ANSWERED, 1) && row == expected;
         report.case(right, || format!("trust {trust:?}: the row is {row:?}, and not {expected:?}"));
         let mut entry = [7; GROUP_WORDS];
-        totals_of(&table, &project, VARIABLES as u32 - 1, &mut [7; ROW_WORDS], &mut entry, TALLY);
+        totals_of(&table, &project, LEAST, VARIABLES as u32 - 1, &mut [7; ROW_WORDS], &mut entry, TALLY);
         report.case(entry == [cell, 1, word], || format!("trust {trust:?}: the entry is {entry:?}"));
+    }
+}
+
+/// The table and the query as parameters in the header, of the calls as they are exported to Rust, and of those on slices.
+const IN_C: &str = "const uint8_t *table, size_t table_len, const uint8_t *query, size_t query_len";
+const IN_RAW: &str = "table: *const u8, table_len: usize, query: *const u8, query_len: usize";
+const IN_RUST: &str = "table: &[u8], query: &[u8]";
+
+/// The two calls that take the choice declare it behind the query.
+fn choice_declared(report: &mut Report) {
+    let (header, in_rust) = (include_str!("../../include/randwyler.h"), include_str!("../../include/randwyler.rs"));
+    let packed = |text: &str| text.split_whitespace().collect::<String>();
+    for (file, text, inputs, mean, [space, variable]) in [
+        ("randwyler.h", header, IN_C, "bool mean", ["uint32_t *space", "uint32_t variable"]),
+        ("randwyler.rs", in_rust, IN_RAW, "mean: bool", ["space: *mut u32", "variable: u32"]),
+        ("randwyler.rs", in_rust, IN_RUST, "mean: bool", ["space: &mut [u32]", "variable: u32"]),
+    ] {
+        for (call, behind) in [("evaluate", space), ("totals_of", variable)] {
+            let declared = format!("{call}({inputs}, {mean}, {behind},");
+            report.case(packed(text).contains(&packed(&declared)), || format!("include/{file} does not have {declared}"));
+        }
+    }
+}
+
+/// The mean of -5 and -1000 is -502.5, rounded down.
+fn choices(report: &mut Report) {
+    let table = tables::facts(&[([1, 1, 1], Some(-5)), ([1, 1, 2], Some(-1_000))]);
+    let query = vectors::query(&vectors::set("?0 1 1, ?0 1 2"));
+    for (mean, trust) in [(LEAST, TRUST_ZERO - 1_000), (MEAN, TRUST_ZERO - 503)] {
+        let (mut row, mut entry) = ([7; ROW_WORDS], [7; GROUP_WORDS]);
+        let answer = evaluate(&table, &query, mean, &mut row, TALLY);
+        let right = (answer.number, answer.rows, row[0], row[VARIABLES]) == (ANSWERED, 1, 1, trust);
+        report.case(right, || format!("mean {mean}: {answer:?} with the row {row:?}"));
+        let answer = totals_of(&table, &query, mean, 0, &mut row, &mut entry, TALLY);
+        let right = (answer.number, entry) == (ANSWERED, [1, 1, trust]);
+        report.case(right, || format!("mean {mean}: {answer:?} with the entry {entry:?}"));
     }
 }
 
@@ -195,6 +237,8 @@ fn main() {
     row_spaces(&mut report);
     outputs(&mut report);
     words(&mut report);
+    choice_declared(&mut report);
+    choices(&mut report);
     readings(&mut report);
     report.part("sizes and words");
     shapes(&mut report);

@@ -3,9 +3,9 @@
 use crate::fence::{self, Lender};
 use crate::ffi;
 use crate::groups::{Totals, GROUP_WORDS};
-use crate::paper::{refusal, VARIABLES};
+use crate::paper::{refusal, Inputs, VARIABLES};
 use crate::random::Random;
-use crate::report::{hex, Report};
+use crate::report::{shown, Report};
 use crate::rows::{Outcome, MOST_ROWS};
 use crate::spaces::{self, Spaces};
 
@@ -17,9 +17,6 @@ pub struct Outputs {
     pub spaces: Spaces,
     outputs: Lender<u32>,
 }
-
-/// A table and a query.
-type Inputs<'a> = (&'a [u8], &'a [u8]);
 
 impl Outputs {
     pub fn new(seed: u64) -> Outputs {
@@ -33,12 +30,14 @@ impl Outputs {
         let (tally, variable) = (self.spaces.tally(), totals.variable);
         let (expected, after, written) = totals.answer([words, room], tally);
         let (mut space, mut output) = (self.spaces.0.lend(words), self.outputs.lend(room));
-        let call =
-            |table: &[u8], query: &[u8]| ffi::totals(table, query, variable, space.slice_mut(), output.slice_mut(), tally);
-        let Some(got) = fence::call(&mut self.spaces.0.random, inputs.0, inputs.1, call) else {
+        let (table, query, choice) = inputs;
+        let call = |table: &[u8], query: &[u8]| {
+            ffi::totals((table, query, choice), variable, space.slice_mut(), output.slice_mut(), tally)
+        };
+        let Some(got) = fence::call(&mut self.spaces.0.random, table, query, call) else {
             return report.case(false, || format!("{what}: an input was changed"));
         };
-        let said = || format!("totals9 {} {} {variable} {words} {room} => {got}", hex(inputs.0), hex(inputs.1));
+        let said = || format!("totals9 {} {variable} {words} {room} => {got}", shown(inputs));
         if got == expected && !space.holds(after.as_deref().unwrap_or(&[])) {
             return report.case(false, || format!("{what}: wrong words in the row space after {}", said()));
         }
@@ -63,14 +62,14 @@ impl Outputs {
         &mut self,
         report: &mut Report,
         what: &str,
-        (table, query): Inputs,
+        inputs: Inputs,
         variable: u32,
         [words, room]: [usize; 2],
     ) {
         let [mut one, mut other] = [0; 2].map(|_| self.spaces.0.lend(words));
         let (mut output, tally) = (self.outputs.lend(room), self.spaces.tally());
-        let totalled = ffi::totals(table, query, variable, one.slice_mut(), output.slice_mut(), tally);
-        let evaluated = ffi::evaluate(table, query, other.slice_mut(), tally);
+        let totalled = ffi::totals(inputs, variable, one.slice_mut(), output.slice_mut(), tally);
+        let evaluated = ffi::evaluate(inputs, other.slice_mut(), tally);
         let entries = output.slice().chunks(GROUP_WORDS).take(totalled.length as usize / GROUP_WORDS);
         let counted: u64 = entries.map(|entry| u64::from(entry[1])).sum();
         let good = match (evaluated.refusal.number, totalled.refusal.number) {
@@ -81,7 +80,7 @@ impl Outputs {
             _ => false,
         };
         report.case(good, || {
-            let call = format!("{} {} {variable} {words} {room}", hex(table), hex(query));
+            let call = format!("{} {variable} {words} {room}", shown(inputs));
             format!("{what}: totals9 {call} => {totalled}, beside the evaluation {evaluated}")
         });
     }

@@ -32,6 +32,19 @@ pub struct Tally {
     pub refused: u32,
 }
 
+/// What the caller of an evaluation chooses, by request 4 of document 02: the trust of a pattern set's row is the least of those of the
+/// records that its patterns use, or their mean.
+#[derive(Clone, Copy, Debug, PartialEq, Eq)]
+pub enum Choice {
+    Least,
+    Mean,
+}
+
+pub const CHOICES: [Choice; 2] = [Choice::Least, Choice::Mean];
+
+/// What is evaluated: a table and a query, by a choice.
+pub type Inputs<'a> = (&'a [u8], &'a [u8], Choice);
+
 /// The answer of an evaluation: rows, peak and pairs are 0 on a refusal.
 #[derive(Clone, Copy, Debug, PartialEq, Eq)]
 pub struct Evaluated {

@@ -1,9 +1,9 @@
-//! Totals whose refusals, row spaces and tallies are written down by hand.
+//! Totals whose refusals, row spaces and tallies are written down by hand. None depends on the choice.
 
-use crate::ffi;
+use crate::ffi::{self, OrNull};
 use crate::groups::Totals;
 use crate::limits;
-use crate::paper::{refusal, Tally, Totalled, CHECK_LIMIT, MOST_RECORDS, NONE};
+use crate::paper::{refusal, Choice, Inputs, Tally, Totalled, CHECK_LIMIT, CHOICES, MOST_RECORDS, NONE};
 use crate::report::Report;
 use crate::rows::{self, ROW_WORDS};
 use crate::tables;
@@ -38,12 +38,16 @@ struct Refused<'a> {
 
 impl Refused<'_> {
     fn test(&self, report: &mut Report) {
+        CHOICES.into_iter().for_each(|choice| self.test_by(report, choice));
+    }
+
+    fn test_by(&self, report: &mut Report, choice: Choice) {
         let Refused { what, table, query, variable, words, room, .. } = *self;
-        let (mut space, mut output) = (vec![OLD; words], vec![OLD; room]);
+        let (inputs, mut space, mut output) = ((table, query, choice), vec![OLD; words], vec![OLD; room]);
         let tally = Tally { answered: 5, refused: 1 };
-        let got = ffi::totals(table, query, variable, &mut space, &mut output, Tally { refused: 0, ..tally });
+        let got = ffi::totals(inputs, variable, &mut space, &mut output, Tally { refused: 0, ..tally });
         let expected = Totalled { refusal: refusal(self.number, self.place), length: 0, tally };
-        report.totals(what, (table, query), (variable, words, room), expected, got);
+        report.totals(what, inputs, (variable, words, room), expected, got);
         let mut after = vec![if let After::Unchanged = self.after { OLD } else { 0 }; words];
         if let After::Row = self.after {
             after[..ROW_WORDS].copy_from_slice(&ROW);
@@ -51,7 +55,7 @@ impl Refused<'_> {
         let said = format!("{what}, variable {variable} in {words} and {room} words");
         report.case(space == after, || format!("{said}: wrong words in the row space"));
         report.case(output == vec![OLD; room], || format!("{said}: the output was changed"));
-        let read = Totals::new(&rows::evaluate(table, query), variable).refusal([words, room]);
+        let read = Totals::new(&rows::evaluate(inputs), variable).refusal([words, room]);
         report.case(read == expected.refusal, || format!("{said}: groups.rs has {read}"));
     }
 }
@@ -115,15 +119,16 @@ pub fn last(report: &mut Report) {
 pub fn short_outputs(report: &mut Report) {
     let (table, query, tally) = (tables::w(), vectors::query("S"), Tally { answered: 0, refused: 0 });
     for (variable, needed) in [(0, 6), (1, 6), (2, 9), (3, 3)] {
-        for room in 0..12 {
+        for (room, choice) in (0..12).flat_map(|room| CHOICES.map(|choice| (room, choice))) {
             let (mut space, mut output) = (vec![OLD; 4 * ROW_WORDS], vec![OLD; room]);
-            let got = ffi::totals(&table, &query, variable, &mut space, &mut output, tally);
+            let inputs = (&table[..], &query[..], choice);
+            let got = ffi::totals(inputs, variable, &mut space, &mut output, tally);
             let expected = if room < needed {
                 Totalled { refusal: refusal(10, needed), length: 0, tally: Tally { answered: 0, refused: 1 } }
             } else {
                 Totalled { refusal: NONE, length: needed as u64, tally: Tally { answered: 1, refused: 0 } }
             };
-            report.totals("W", (&table, &query), (variable, space.len(), room), expected, got);
+            report.totals("W", inputs, (variable, space.len(), room), expected, got);
             let unchanged = output.iter().skip(got.length as usize).all(|word| *word == OLD);
             report.case(unchanged, || format!("W: variable {variable}, {room} words: wrong words behind the entries"));
         }
@@ -143,25 +148,25 @@ pub fn tallies(report: &mut Report) {
             for other in [0, 7, most - 1, most] {
                 let tally = |one| if answered { (one, other) } else { (other, one) };
                 let [before, after] = [count, raised].map(tally).map(|(answered, refused)| Tally { answered, refused });
-                let got = ffi::totals(&[], &[0x00], variable, &mut vec![OLD; words], &mut vec![OLD; room], before).tally;
-                report.case(got == after, || format!("{what}: the tally is {got}, not {after}, after {before}"));
+                for choice in CHOICES {
+                    let inputs: Inputs = (&[], &[0x00], choice);
+                    let got = ffi::totals(inputs, variable, &mut vec![OLD; words], &mut vec![OLD; room], before).tally;
+                    report.case(got == after, || format!("{what}: the tally is {got}, not {after}, after {before}"));
+                }
             }
         }
     }
     let (mut space, mut output, tally) = ([OLD; 17], [OLD; 3], Tally { answered: most, refused: 3 });
-    let got = ffi::totals(&[], &[], 0, &mut space, &mut output, tally).tally;
+    let got = ffi::totals((&[], &[], Choice::Mean), 0, &mut space, &mut output, tally).tally;
     report.case(got == Tally { answered: most, refused: 4 }, || format!("no query: the tally is {got}"));
 }
-
-/// A table and a query; none is NULL.
-type Inputs<'a> = (Option<&'a [u8]>, Option<&'a [u8]>);
 
 /// Tests a call that is answered with `length` words or refused, in a row space of 20 words and with an output of 4, each of them lent or
 /// NULL. The query lists the row of the empty set or none.
 fn test_null(
     report: &mut Report,
     what: &str,
-    inputs: Inputs,
+    inputs: OrNull,
     variable: u32,
     [space, output]: [bool; 2],
     (number, place, length): (u32, usize, u64),
@@ -172,7 +177,7 @@ fn test_null(
     let tally = Tally { answered: u32::from(number == 0), refused: u32::from(number != 0) };
     let expected = Totalled { refusal: refusal(number, place), length, tally };
     let lengths = (variable, 20 * usize::from(space), 4 * usize::from(output));
-    report.totals(what, (inputs.0.unwrap_or(&[]), inputs.1.unwrap_or(&[])), lengths, expected, got);
+    report.totals(what, (inputs.0.unwrap_or(&[]), inputs.1.unwrap_or(&[]), inputs.2), lengths, expected, got);
     let written = if length == 3 { [0, 1, 2_000, OLD] } else { [OLD; 4] };
     report.case(entries == written, || format!("{what}: the output is {entries:x?}"));
     let after = match (number, place) {
@@ -202,6 +207,9 @@ pub fn null_pointers(report: &mut Report) {
         ("NULL query, a variable above 15", (table, None), 16, lent, (6, 0, 0)),
         ("NULL for all", (None, None), 0, neither, (6, 0, 0)),
     ] {
-        test_null(report, what, inputs, variable, slices, answer);
+        for choice in CHOICES {
+            let (table, query) = inputs;
+            test_null(report, what, (table, query, choice), variable, slices, answer);
+        }
     }
 }

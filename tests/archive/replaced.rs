@@ -4,10 +4,10 @@
 use crate::ceilings;
 use crate::ffi;
 use crate::kinds::{Kind, Kinds};
-use crate::paper::{self, Ceiling, Node, Slot, MOST_RECORDS, RECORD_BYTES};
+use crate::paper::{self, Ceiling, Choice, Node, Slot, CHOICES, MOST_RECORDS, RECORD_BYTES};
 use crate::random::Random;
 use crate::report::{hex, Report};
-use crate::rows::Outcome;
+use crate::rows::{Outcome, Seen};
 use crate::spaces::{self, Spaces};
 use crate::subjects::{self, Maker, Set, LAST_TERM};
 
@@ -17,6 +17,7 @@ struct Replaced {
     table: Vec<u8>,
     replaced: Vec<u8>,
     query: Vec<u8>,
+    choice: Choice,
     /// The greatest subject that is named, and the number of the first record of a greater one.
     greatest: u32,
     first: usize,
@@ -25,6 +26,8 @@ struct Replaced {
     ceilings: [Ceiling; 2],
     /// Whether every subject is a term. A ceiling goes by each pattern alone, and a subject that is a variable is free in it.
     by_terms: bool,
+    /// Whether a mean was not the least.
+    not_least: bool,
 }
 
 impl Replaced {
@@ -53,10 +56,13 @@ impl Replaced {
         if replaced == table {
             return None;
         }
-        let outcomes = [subjects::evaluate(&table, &query)?, subjects::evaluate(&replaced, &query)?];
+        let (choice, mut seen) = (random.pick(&CHOICES), Seen::default());
+        let mut evaluate = |table| subjects::evaluate((table, &query, choice), &mut seen);
+        let outcomes = [evaluate(&table)?, evaluate(&replaced)?];
         let ceilings = [&table, &replaced].map(|table| ceilings::ceiling(table, &query));
         let by_terms = sets.iter().flat_map(|set| set.patterns).all(|[subject, ..]| matches!(subject, Slot::Term(_)));
-        Some(Replaced { table, replaced, query, greatest, first, outcomes, ceilings, by_terms })
+        let not_least = seen.means.not_least();
+        Some(Replaced { table, replaced, query, choice, greatest, first, outcomes, ceilings, by_terms, not_least })
     }
 
     /// Tests both calls on both tables, the evaluation in row spaces that are just too short and just long enough, and another.
@@ -71,7 +77,7 @@ impl Replaced {
         let lengths = spaces::lengths(outcome);
         for words in [lengths[0], lengths[1], spaces.0.random.pick(&lengths[2..])] {
             for table in tables {
-                spaces.test(report, what, (table, &self.query), outcome, words);
+                spaces.test(report, what, (table, &self.query, self.choice), outcome, words);
             }
             self.test_beside(report, spaces, what, words);
         }
@@ -87,16 +93,16 @@ impl Replaced {
         let tally = spaces.tally();
         let [(one, one_space), (other, other_space)] = [&self.table, &self.replaced].map(|table| {
             let mut space = spaces.0.lend(words);
-            (ffi::evaluate(table, &self.query, space.slice_mut(), tally), space)
+            (ffi::evaluate((table, &self.query, self.choice), space.slice_mut(), tally), space)
         });
         report.case(one == other && one_space.slice() == other_space.slice(), || {
             let [table, replaced, query] = [&self.table, &self.replaced, &self.query].map(|bytes| hex(bytes));
-            format!("{what}: eval {table} {query} {words} => {one}, and on {replaced} => {other}")
+            format!("{what}: eval by {:?} {table} {query} {words} => {one}, and on {replaced} => {other}", self.choice)
         });
     }
 
     /// The kinds by the tables.
-    fn kinds(&self) -> [Kind; 17] {
+    fn kinds(&self) -> [Kind; 18] {
         let behind = |table: &[u8]| table.len() / RECORD_BYTES - self.first - 1;
         let (old, new) = (behind(&self.table), behind(&self.replaced));
         let triples = subjects::triples(&self.replaced);
@@ -106,6 +112,7 @@ impl Replaced {
         let (rows, too_short) = (subjects::has_rows(outcome), spaces::lengths(outcome)[0]);
         [
             ("rows", 10_000, rows),
+            ("rows, and a mean that is not the least", 1_000, rows && self.not_least),
             ("no row", 10_000, !rows),
             ("a row space that is too short", 15_000, outcome.refusal(too_short).number == 8),
             ("nothing in the place of records", 6_000, new == 0 && old > 0),

@@ -1,6 +1,6 @@
 //! Counts cases, and shows those that fail.
 
-use crate::paper::{Ceiling, Evaluated, Refusal, Rewritten, Tally, Totalled};
+use crate::paper::{Ceiling, Choice, Evaluated, Inputs, Refusal, Rewritten, Tally, Totalled};
 use std::fmt::{Display, Formatter, Result};
 
 /// Failures that are shown in full; later ones are only counted.
@@ -46,27 +46,20 @@ impl Report {
     }
 
     /// Counts a case of the evaluation, in a row space of `words` words.
-    pub fn evaluate(
-        &mut self,
-        what: &str,
-        (table, query): (&[u8], &[u8]),
-        words: usize,
-        expected: Evaluated,
-        got: Evaluated,
-    ) {
-        self.answer(what, expected, got, || format!("eval {} {} {words}", hex(table), hex(query)));
+    pub fn evaluate(&mut self, what: &str, inputs: Inputs, words: usize, expected: Evaluated, got: Evaluated) {
+        self.answer(what, expected, got, || format!("eval {} {words}", shown(inputs)));
     }
 
     /// Counts a case of totals of a variable, in a row space of `words` words and with an output of `room` words.
     pub fn totals(
         &mut self,
         what: &str,
-        (table, query): (&[u8], &[u8]),
+        inputs: Inputs,
         (variable, words, room): (u32, usize, usize),
         expected: Totalled,
         got: Totalled,
     ) {
-        self.answer(what, expected, got, || format!("totals9 {} {} {variable} {words} {room}", hex(table), hex(query)));
+        self.answer(what, expected, got, || format!("totals9 {} {variable} {words} {room}", shown(inputs)));
     }
 
     /// Says what a part of the test found.
@@ -117,6 +110,15 @@ impl Display for Totalled {
     fn fmt(&self, to: &mut Formatter) -> Result {
         write!(to, "{} {} {}", self.refusal, self.length, self.tally)
     }
+}
+
+/// The choice, and the bytes as in the vectors.
+pub fn shown((table, query, choice): Inputs) -> String {
+    let choice = match choice {
+        Choice::Least => "(least)",
+        Choice::Mean => "(mean)",
+    };
+    format!("{choice} {} {}", hex(table), hex(query))
 }
 
 /// Bytes as in the vectors; of long ones only the front and the length.

@@ -2,7 +2,8 @@
 //! through as many records as a table may have.
 
 use crate::known_stops::{Fact, Store};
-use crate::paper::MOST_RECORDS;
+use crate::means;
+use crate::paper::{Choice, CHOICES, MOST_RECORDS};
 use crate::report::Report;
 use crate::rows::{Row, Trust, Value};
 use crate::spaces::Spaces;
@@ -69,11 +70,13 @@ fn about_records(store: &mut Store, what: &str, numbers: &[usize]) {
     }
 }
 
-/// Subjects of some records each, from the least term on, from another on, and up to the greatest.
+/// Subjects of some records each, from the least term on, from another on, and up to the greatest. Every set has one pattern, so that the
+/// choice does not matter: it is drawn.
 fn tables_of_runs(spaces: &mut Spaces, report: &mut Report, count: usize, run: usize, numbers: &[usize]) {
     let last = LAST_TERM - 2 * (count.saturating_sub(1) / run) as u32;
     for first in [1, 100, last] {
-        let mut store = Store::new(runs(count, run, first), spaces, report);
+        let choice = spaces.choice();
+        let mut store = Store::new(runs(count, run, first), choice, spaces, report);
         about_records(&mut store, &format!("{count} records, {run} a subject, from {first} on"), numbers);
     }
 }
@@ -91,7 +94,8 @@ pub fn named_by_terms(report: &mut Report) {
         }
     }
     for (run, first) in [(1, 100), (5, LAST_TERM - 26_212), (256, 3), (MOST_RECORDS, 100), (MOST_RECORDS, LAST_TERM)] {
-        let mut store = Store::new(runs(MOST_RECORDS, run, first), &mut spaces, report);
+        let choice = spaces.choice();
+        let mut store = Store::new(runs(MOST_RECORDS, run, first), choice, &mut spaces, report);
         let what = format!("65,535 records, {run} a subject, from {first} on");
         about_records(&mut store, &what, &[0, 255, 256, 32_767, 32_768, 65_533, 65_534]);
     }
@@ -114,33 +118,40 @@ fn linked() -> Vec<Fact> {
     (0..SUBJECTS).flat_map(of_subject).enumerate().map(|(i, terms)| (terms, trust_of(i))).collect()
 }
 
-/// The patterns `SUBJECT ?0 ?1, ?1 ?2 ?3, ...`, so many, and their rows.
-fn chain(by_subject: &BTreeMap<u32, &[Fact]>, from: u32, links: u32) -> (String, Vec<Row>) {
+/// The patterns `SUBJECT ?0 ?1, ?1 ?2 ?3, ...`, so many, and their rows. Some chains come back to a record.
+fn chain(by_subject: &BTreeMap<u32, &[Fact]>, from: u32, links: u32, choice: Choice) -> (String, Vec<Row>) {
     let mut text = vec![format!("{from} ?0 ?1")];
     text.extend((1..links).map(|link| format!("?{} ?{} ?{}", 2 * link - 1, 2 * link, 2 * link + 1)));
-    let mut rows = vec![(from, Row { values: BTreeMap::new(), trust: Some(1_000) })];
+    let mut chains = vec![(from, BTreeMap::new(), vec![])];
     for link in 0..links {
         let mut next = Vec::new();
-        for (subject, row) in &rows {
+        for (subject, values, used) in &chains {
             for ([_, predicate, object], trust) in by_subject.get(subject).copied().unwrap_or(&[]) {
-                let values = [(2 * link, *predicate), (2 * link + 1, *object)];
-                let values = values.map(|(variable, term)| (variable, Value::Term(term))).into();
-                next.push((*object, row.merged(&Row { values, trust: *trust })));
+                let (mut values, mut used) = (values.clone(), used.clone());
+                values.extend([(2 * link, Value::Term(*predicate)), (2 * link + 1, Value::Term(*object))]);
+                // Predicates are 1 to 5: no other record has this number.
+                used.push(((5 * subject + predicate) as usize, *trust));
+                next.push((*object, values, used));
             }
         }
-        rows = next;
+        chains = next;
     }
-    (text.join(", "), rows.into_iter().map(|(_, row)| row).collect())
+    let row = |(_, values, used): (u32, BTreeMap<u32, Value>, Vec<means::Used>)| Row {
+        values,
+        trust: means::aggregated(choice, &used),
+    };
+    (text.join(", "), chains.into_iter().map(row).collect())
 }
 
 pub fn long_chains(report: &mut Report) {
     let (mut spaces, facts) = (Spaces::new(2), linked());
     report.case(facts.len() == MOST_RECORDS, || format!("the chains are on {} records", facts.len()));
     let by_subject: BTreeMap<u32, &[Fact]> = facts.chunks(5).map(|facts| (facts[0].0[0], facts)).collect();
-    let mut store = Store::new(facts.clone(), &mut spaces, report);
+    let mut store = Store::new(facts.clone(), Choice::Least, &mut spaces, report);
     for from in [subject(0), subject(5_000), subject(SUBJECTS - 1), 999, subject(5_000) + 1, subject(SUBJECTS - 1) + 1] {
-        for links in 1..=4 {
-            let (patterns, rows) = chain(&by_subject, from, links);
+        for (links, choice) in (1..=4).flat_map(|links| CHOICES.map(|choice| (links, choice))) {
+            store.choice = choice;
+            let (patterns, rows) = chain(&by_subject, from, links, choice);
             // How many records the first pattern matches, and each of the others alone.
             let (first, other) = (if by_subject.contains_key(&from) { 5 } else { 0 }, MOST_RECORDS as u64);
             let ceiling = (first * other.pow(links - 1)).min(u64::from(u32::MAX));

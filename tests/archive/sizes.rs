@@ -5,6 +5,7 @@ mod chains;
 mod conditions;
 mod ffi;
 mod inputs;
+mod means;
 mod paper;
 mod queries;
 mod random;
@@ -14,10 +15,10 @@ mod stack;
 mod tables;
 mod vectors;
 
-use paper::{Evaluated, Kind, Node, Tally, CHECK_LIMIT, MOST_RECORDS, NONE};
+use paper::{Evaluated, Inputs, Kind, Node, Tally, CHECK_LIMIT, CHOICES, MOST_RECORDS, NONE};
 use queries::KINDS;
 use random::Random;
-use report::{hex, Report};
+use report::{hex, shown, Report};
 use rows::ROW_WORDS;
 use std::thread;
 
@@ -82,35 +83,36 @@ fn has_join(node: &Node) -> bool {
     found
 }
 
-fn evaluate(table: &[u8], query: &[u8], rows: u64) -> Evaluated {
+fn evaluate(inputs: Inputs, rows: u64) -> Evaluated {
     let mut space = vec![7; rows as usize * ROW_WORDS];
-    ffi::evaluate(table, query, &mut space, Tally { answered: 0, refused: 0 })
+    ffi::evaluate(inputs, &mut space, Tally { answered: 0, refused: 0 })
 }
 
 /// The bound of a checked query, and its answer and that of its rewriting in so many rows; none if the bound is too great.
-fn within(report: &mut Report, what: &str, table: &[u8], query: &[u8]) -> Option<(u64, Evaluated)> {
+fn within(report: &mut Report, what: &str, inputs: Inputs) -> Option<(u64, Evaluated)> {
+    let (table, query, choice) = inputs;
     let node = paper::query(query, CHECK_LIMIT).expect("a checked query");
     let most = same_bound(report, what, table, query, &node)?;
     let ceiling = u64::from(ceil(table, query));
-    let said = |answer: Evaluated| format!("{what}: eval {} {} in {most} rows => {answer}", hex(table), hex(query));
+    let said = |answer: Evaluated| format!("{what}: eval {} in {most} rows => {answer}", shown(inputs));
     if !has_join(&node) {
         report.case(most <= ceiling, || format!("{what}: bound {most} without a join, ceiling {ceiling}"));
     }
     if most > MOST_BOUND {
         return None;
     }
-    let answer = evaluate(table, query, most);
+    let answer = evaluate(inputs, most);
     report.case(answer.refusal == NONE && u64::from(answer.peak) <= most, || said(answer));
     let mut output = [0; MOST_RESULT];
     let rewritten = ffi::rewrite(query, &mut output);
     if rewritten.refusal == NONE {
-        let pushed = evaluate(table, &output[..rewritten.length as usize], most);
+        let pushed = evaluate((table, &output[..rewritten.length as usize], choice), most);
         report.case(pushed.refusal == NONE, || format!("{}, rewritten", said(pushed)));
     }
     Some((most, answer))
 }
 
-/// Bounds and peaks on the store W.
+/// Bounds and peaks on the store W, by either choice.
 fn by_hand(report: &mut Report) {
     for (what, query, most, peak) in [
         ("case 1", "E 10 A B", 8, 6),
@@ -124,8 +126,12 @@ fn by_hand(report: &mut Report) {
         ("a filter that keeps nothing", "40 4070 S", 4, 4),
         ("a join of all, twice", "10 S 10 S S", 84, 16),
     ] {
-        let found = within(report, what, &tables::w(), &vectors::query(query)).map(|(most, answer)| (most, answer.peak));
-        report.case(found == Some((most, peak)), || format!("{what}: bound and peak are {found:?}, not {most} and {peak}"));
+        for choice in CHOICES {
+            let found = within(report, what, (&tables::w(), &vectors::query(query), choice));
+            let found = found.map(|(most, answer)| (most, answer.peak));
+            let right = found == Some((most, peak));
+            report.case(right, || format!("{what}: bound and peak are {found:?}, not {most} and {peak}"));
+        }
     }
 }
 
@@ -206,7 +212,8 @@ fn random_cases(report: &mut Report) {
         if paper::check(&table, &query) != NONE {
             continue;
         }
-        let Some((most, answer)) = within(report, &format!("random case {number}"), &table, &query) else { continue };
+        let inputs = (&table[..], &query[..], random.pick(&CHOICES));
+        let Some((most, answer)) = within(report, &format!("random case {number}"), inputs) else { continue };
         answered += 1;
         exact += u64::from(u64::from(answer.peak) == most);
         above_ceiling += u64::from(answer.peak > ceil(&table, &query));

@@ -2,7 +2,7 @@
 
 use crate::conditions::{Truth, TRUTHS};
 use crate::ffi;
-use crate::paper::{Tally, NONE};
+use crate::paper::{Choice, Tally, NONE};
 use crate::report::Report;
 use crate::rows::{self, Outcome, Seen, LEFT_ROWS, MOST_ROWS, ROW_WORDS};
 use crate::spaces::Spaces;
@@ -28,8 +28,8 @@ fn table_of_cells() -> Vec<u8> {
 /// The truth of a condition on the one row of a node, by the call: a filter keeps what is true, and what is false under not.
 fn truth_by_call(table: &[u8], condition: &str, node: &str) -> Option<Truth> {
     let kept = |query: String| {
-        let answer =
-            ffi::evaluate(table, &vectors::query(&query), &mut [7; 9 * ROW_WORDS], Tally { answered: 0, refused: 0 });
+        let inputs = (table, &vectors::query(&query)[..], Choice::Least);
+        let answer = ffi::evaluate(inputs, &mut [7; 9 * ROW_WORDS], Tally { answered: 0, refused: 0 });
         (answer.refusal == NONE).then_some(answer.rows)
     };
     match (kept(format!("40 {condition} {node}"))?, kept(format!("40 40 {condition} {node}"))?) {
@@ -104,7 +104,7 @@ fn conditions() -> Vec<String> {
 }
 
 /// Every such condition in a filter and in a left join, on all pairs of values: X and Y are each free or one of three terms,
-/// or free or one of five known trusts or unknown.
+/// or free or one of five known trusts or unknown. Every set has one pattern, so that the choice does not matter: it is drawn.
 pub fn all_small(report: &mut Report) {
     let trusts = [Some(-1_000), Some(-1), Some(0), Some(1), Some(1_000), None];
     let of_terms = [1, 2, 1_048_575].map(|object| ([1, 1, object], Some(0)));
@@ -118,11 +118,11 @@ pub fn all_small(report: &mut Report) {
         for condition in conditions() {
             for query in [format!("40 {condition} 10 {x} {y}"), format!("20 {condition} {x} {y}")] {
                 let bytes = vectors::query(&query);
-                let outcome =
-                    rows::evaluate_within(&table, &bytes, MOST_ROWS, u64::MAX, &mut seen).expect("no limit of steps");
+                let inputs = (&table[..], &bytes[..], spaces.choice());
+                let outcome = rows::evaluate_within(inputs, MOST_ROWS, u64::MAX, &mut seen).expect("no limit of steps");
                 let Outcome::Rows(evaluation) = &outcome else { panic!("{query} is refused") };
                 let words = evaluation.space * ROW_WORDS + 5;
-                spaces.test(report, &query, (&table, &bytes), &outcome, words);
+                spaces.test(report, &query, inputs, &outcome, words);
             }
         }
     }

@@ -2,8 +2,8 @@
 
 use crate::fence::{self, Lender};
 use crate::ffi;
-use crate::paper::Tally;
-use crate::report::{hex, Report};
+use crate::paper::{Choice, Inputs, Tally, CHOICES};
+use crate::report::{shown, Report};
 use crate::rows::{Outcome, ROW_WORDS};
 
 /// The longest row space that is lent: more rows than any capacity.
@@ -23,25 +23,30 @@ impl Spaces {
         Tally { answered, refused }
     }
 
+    /// Least or mean, drawn.
+    pub fn choice(&mut self) -> Choice {
+        self.0.random.pick(&CHOICES)
+    }
+
     /// Calls in a row space of `words` words; it and the inputs stand between noise at random alignments. The case fails if
     /// the answer or a word of the row space is not the expected one, or if anything else has changed.
-    pub fn test(&mut self, report: &mut Report, what: &str, inputs: (&[u8], &[u8]), outcome: &Outcome, words: usize) {
+    pub fn test(&mut self, report: &mut Report, what: &str, inputs: Inputs, outcome: &Outcome, words: usize) {
         let tally = self.tally();
         let (expected, after) = outcome.answer(words, tally);
         let mut space = self.0.lend(words);
-        let call = |table: &[u8], query: &[u8]| ffi::evaluate(table, query, space.slice_mut(), tally);
-        let Some(got) = fence::call(&mut self.0.random, inputs.0, inputs.1, call) else {
+        let (table, query, choice) = inputs;
+        let call = |table: &[u8], query: &[u8]| ffi::evaluate((table, query, choice), space.slice_mut(), tally);
+        let Some(got) = fence::call(&mut self.0.random, table, query, call) else {
             return report.case(false, || format!("{what}: an input was changed"));
         };
         if got == expected && !space.holds(after.as_deref().unwrap_or(&[])) {
-            let inputs = || format!("{} {} {words}", hex(inputs.0), hex(inputs.1));
-            return report.case(false, || format!("{what}: wrong words after eval {} => {got}", inputs()));
+            return report.case(false, || format!("{what}: wrong words after eval {} {words} => {got}", shown(inputs)));
         }
         report.evaluate(what, inputs, words, expected, got);
     }
 
     /// The same in row spaces of all awkward lengths.
-    pub fn test_lengths(&mut self, report: &mut Report, what: &str, inputs: (&[u8], &[u8]), outcome: &Outcome) {
+    pub fn test_lengths(&mut self, report: &mut Report, what: &str, inputs: Inputs, outcome: &Outcome) {
         for words in lengths(outcome) {
             self.test(report, what, inputs, outcome, words);
         }

@@ -8,6 +8,7 @@ mod fence;
 mod ffi;
 mod kinds;
 mod known_stops;
+mod means;
 mod paper;
 mod printed;
 mod random;
@@ -24,6 +25,7 @@ use kinds::{Kind, Kinds};
 use paper::{Pattern, Record, Slot, VARIABLES};
 use random::Random;
 use report::Report;
+use rows::Seen;
 use spaces::Spaces;
 use subjects::{Maker, Scan, Triple, LAST_TERM};
 
@@ -158,7 +160,7 @@ fn kinds_of_patterns(triples: &[Triple], patterns: &[Pattern], rows: bool) -> [K
 }
 
 fn random_cases(report: &mut Report) {
-    let (mut random, mut spaces, mut asked) = (Random::new(8), Spaces::new(9), Asked::default());
+    let (mut random, mut spaces, mut asked, mut seen) = (Random::new(8), Spaces::new(9), Asked::default(), Seen::default());
     // A set alone, and other nodes over some.
     let mut cases = [0; 2];
     for number in 0..RANDOM_CASES {
@@ -166,14 +168,19 @@ fn random_cases(report: &mut Report) {
         let triples = subjects::triples(&table);
         let depth = random.pick(&[0, 0, 0, 1, 2]);
         let query = Maker::new(&mut random, &triples, false).node(depth);
-        let Some(outcome) = subjects::evaluate(&table, &query) else { continue };
+        let inputs = (&table[..], &query[..], spaces.choice());
+        let mut here = Seen::default();
+        let Some(outcome) = subjects::evaluate(inputs, &mut here) else { continue };
         cases[depth.min(1)] += 1;
-        let (what, inputs) = (format!("random case {number}"), (&table[..], &query[..]));
+        let what = format!("random case {number}");
         let lengths = spaces::lengths(&outcome);
         for words in [lengths[0], lengths[1], random.pick(&lengths[2..])] {
             spaces.test(report, &what, inputs, &outcome, words);
         }
-        ceilings::test(report, &mut random, &what, inputs, ceilings::ceiling(&table, &query));
+        if subjects::has_rows(&outcome) {
+            seen.add(&here);
+        }
+        ceilings::test(report, &mut random, &what, (&table, &query), ceilings::ceiling(&table, &query));
         for set in subjects::sets(&subjects::tree(&query)) {
             if let Some(scans) = subjects::scans(&table, &query, &set) {
                 asked.count(&triples, set.patterns, &scans, subjects::has_rows(&outcome));
@@ -183,6 +190,7 @@ fn random_cases(report: &mut Report) {
     println!("random pattern sets: {}, in other nodes: {}", cases[0], cases[1]);
     report.case(cases[0] >= 30_000 && cases[1] >= 20_000, || "too few random cases".to_string());
     asked.enough(report);
+    seen.means.enough(report, "random cases with rows", 1_000);
 }
 
 fn main() {

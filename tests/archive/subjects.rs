@@ -1,7 +1,7 @@
 //! Random tables whose terms are few and near one another, queries about their subjects, and the subjects that the scans of a query
 //! ask for. A subject that is asked for is often one of the table, or one less or one more.
 
-use crate::paper::{self, Kind, Node, Pattern, Slot, CHECK_LIMIT, RECORD_BYTES, VARIABLES};
+use crate::paper::{self, Choice, Inputs, Kind, Node, Pattern, Slot, CHECK_LIMIT, RECORD_BYTES, VARIABLES};
 use crate::random::Random;
 use crate::rows::{self, Outcome, Seen, Value};
 use crate::tables;
@@ -15,9 +15,9 @@ const MOST_SPACE: usize = 300;
 const MOST_STEPS: usize = 10_000;
 const STEPS_A_RECORD: usize = 16;
 
-pub fn evaluate(table: &[u8], query: &[u8]) -> Option<Outcome> {
-    let steps = MOST_STEPS + STEPS_A_RECORD * table.len() / RECORD_BYTES;
-    rows::evaluate_within(table, query, MOST_SPACE, steps as u64, &mut Seen::default())
+pub fn evaluate(inputs: Inputs, seen: &mut Seen) -> Option<Outcome> {
+    let steps = MOST_STEPS + STEPS_A_RECORD * inputs.0.len() / RECORD_BYTES;
+    rows::evaluate_within(inputs, MOST_SPACE, steps as u64, seen)
 }
 
 pub fn has_rows(outcome: &Outcome) -> bool {
@@ -243,14 +243,15 @@ pub struct Scan {
     pub term: Option<u32>,
 }
 
-/// The scans for a pattern set: for each pattern one for each row of the set of the patterns before it. None where these are too many to
-/// tell.
+/// The scans for a pattern set: for each pattern one for each row of the set of the patterns before it, by either choice. None where
+/// these are too many to tell.
 pub fn scans(table: &[u8], query: &[u8], set: &Set) -> Option<Vec<Scan>> {
     let mut scans = Vec::new();
     for (pattern, [subject, ..]) in set.patterns.iter().enumerate() {
         let first = set.place + 1;
         let before = [&[pattern as u8], &query[first..first + PATTERN_BYTES * pattern]].concat();
-        let Some(Outcome::Rows(evaluation)) = evaluate(table, &before) else { return None };
+        let evaluated = evaluate((table, &before, Choice::Least), &mut Seen::default());
+        let Some(Outcome::Rows(evaluation)) = evaluated else { return None };
         for row in evaluation.rows {
             let term = match subject {
                 Slot::Term(term) => Some(*term),

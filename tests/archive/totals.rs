@@ -1,6 +1,6 @@
-//! Tests `randwyler_totals_of` of the built archive: vectors, entries and refusals by hand, independent totals (groups.rs) in row
-//! spaces and with outputs of awkward lengths, totals beside the evaluation, limits, 65,535 rows, and the stack it needs. The last
-//! line is 'N passed, M failed'.
+//! Tests `randwyler_totals_of` of the built archive, by least and by mean: vectors, entries and refusals by hand, independent totals
+//! (groups.rs) in row spaces and with outputs of awkward lengths, totals beside the evaluation, limits, 65,535 rows, and the stack it
+//! needs. The last line is 'N passed, M failed'.
 
 mod chains;
 mod conditions;
@@ -13,6 +13,7 @@ mod known_totals;
 mod left_joins;
 mod limits;
 mod many_groups;
+mod means;
 mod outputs;
 mod paper;
 mod queries;
@@ -31,23 +32,26 @@ use groups::{Group, Totals, GROUP_WORDS};
 use kinds::{Kind, Kinds};
 use limits::{AtLimit, NullInput, TableAtLimit};
 use outputs::Outputs;
-use paper::{Refusal, Tally, Totalled, CHECK_LIMIT, MOST_RECORDS, NONE, VARIABLES};
+use paper::{Choice, Refusal, Tally, Totalled, CHECK_LIMIT, CHOICES, MOST_RECORDS, NONE, VARIABLES};
 use queries::KINDS;
 use random::Random;
 use report::Report;
 use rows::{Outcome, Value, MOST_ROWS, ROW_WORDS};
 use stack::Deepest;
 
+/// Lines of 01-totals.txt.
+const VECTORS: usize = 248;
 const RANDOM_CASES: usize = 105_000;
 /// Random cases are evaluated as far as so many rows of space, and left out if they take more steps.
 const MOST_SPACE: usize = 300;
 const MOST_STEPS: u64 = 10_000;
 
-/// A vector is `TABLE QUERY VARIABLE WORDS ROOM => NUMBER PLACE LENGTH ENTRIES ROWS`; the zeros behind the rows are left out.
+/// A vector is `TABLE QUERY VARIABLE WORDS ROOM => NUMBER PLACE LENGTH ENTRIES ROWS`, by least; the zeros behind the rows are left out.
+/// Its inputs are tested by mean too.
 fn vectors(report: &mut Report) {
     let mut outputs = Outputs::new(1);
     let all = vectors::of("totals9", include_str!("../vectors/01-totals.txt"));
-    report.case(!all.is_empty(), || "01-totals.txt has no vectors".to_string());
+    report.case(all.len() == VECTORS, || format!("01-totals.txt has {} vectors, not {VECTORS}", all.len()));
     for vector in all {
         let [table, query] = [0, 1].map(|i| vectors::bytes(&vector.inputs[i]));
         let [variable, words, room] = [2, 3, 4].map(|i| vectors::number(&vector.inputs[i]) as usize);
@@ -58,26 +62,30 @@ fn vectors(report: &mut Report) {
         let expected = Totalled { refusal: Refusal { number: number as u32, place }, length, tally };
         after.resize(words, 0);
         let unchanged = (1..=7).contains(&number) || (number, place) == (10, 0);
-        let outcome = rows::evaluate(&table, &query);
-        let totals = Totals::new(&outcome, variable as u32);
-        let read = totals.answer([words, room], Tally { answered: 0, refused: 0 });
+        let [read, _] = CHOICES.map(|choice| {
+            let inputs = (&table[..], &query[..], choice);
+            let outcome = rows::evaluate(inputs);
+            let totals = Totals::new(&outcome, variable as u32);
+            outputs.test(report, &what, inputs, &totals, [words, room]);
+            totals.answer([words, room], Tally { answered: 0, refused: 0 })
+        });
         report.case(read == (expected, (!unchanged).then_some(after), entries), || format!("{what}: groups.rs differs"));
-        outputs.test(report, &what, (&table, &query), &totals, [words, room]);
     }
 }
 
-/// Queries about as long as a call takes, tables about as long as a table may be, and NULL.
+/// Queries about as long as a call takes, and tables about as long as a table may be, by either choice.
 fn at_limits(report: &mut Report) {
     let mut outputs = Outputs::new(2);
     let mut test = |what: &str, table: &[u8], query: &[u8], refusal| {
-        let outcome = rows::evaluate(table, query);
-        let read = if let Outcome::Refused(refusal) = outcome { refusal } else { NONE };
-        report.case(read == refusal, || format!("{what}: rows.rs differs"));
-        for variable in [3, VARIABLES] {
+        for (choice, variable) in CHOICES.into_iter().flat_map(|choice| [(choice, 3), (choice, VARIABLES)]) {
+            let inputs = (table, query, choice);
+            let outcome = rows::evaluate(inputs);
+            let read = if let Outcome::Refused(refusal) = outcome { refusal } else { NONE };
+            report.case(read == refusal, || format!("{what}: rows.rs differs"));
             let totals = Totals::new(&outcome, variable);
             for words in &spaces::lengths(&outcome)[..2] {
                 for room in &outputs::rooms(&totals)[..2] {
-                    outputs.test(report, what, (table, query), &totals, [*words, *room]);
+                    outputs.test(report, what, inputs, &totals, [*words, *room]);
                 }
             }
         }
@@ -88,12 +96,17 @@ fn at_limits(report: &mut Report) {
     for TableAtLimit { what, table, query, refusal } in limits::of_tables() {
         test(what, &table, &query, refusal);
     }
+}
+
+/// A pointer with length 0 may be NULL.
+fn null_pointers(report: &mut Report, choice: Choice) {
+    let tally = Tally { answered: 7, refused: u32::MAX };
     for NullInput { what, table, query, .. } in limits::null_inputs() {
-        let (table, query) = (table.as_deref(), query.as_deref());
-        let inputs = (table.unwrap_or(&[]), query.unwrap_or(&[]));
-        let (outcome, tally) = (rows::evaluate(inputs.0, inputs.1), outputs.spaces.tally());
+        let or_null = (table.as_deref(), query.as_deref(), choice);
+        let inputs = (or_null.0.unwrap_or(&[]), or_null.1.unwrap_or(&[]), choice);
+        let outcome = rows::evaluate(inputs);
         let expected = Totals::new(&outcome, 0).answer([0, 0], tally).0;
-        let got = ffi::totals_or_null((table, query), 0, None, None, tally);
+        let got = ffi::totals_or_null(or_null, 0, None, None, tally);
         report.totals(what, inputs, (0, 0, 0), expected, got);
     }
 }
@@ -110,6 +123,7 @@ fn random_inputs(random: &mut Random, large: &[u8]) -> (Vec<u8>, Vec<u8>) {
         2..200 => inputs::wide(random, &mut nested),
         200..900 => inputs::unions(random),
         900..1_100 => left_joins::inputs(random),
+        1_100..1_200 => inputs::pattern_set(random),
         _ => (table, query),
     }
 }
@@ -166,15 +180,27 @@ fn kinds_of_lengths(totals: &Totals, [words, room]: [usize; 2]) -> [Kind; 10] {
     ]
 }
 
-/// The kinds by the left rows of left joins; none where a call is refused or there is no group.
-fn kinds_of_left_rows(totals: &Totals, answered: bool, left_rows: &rows::Seen) -> [Kind; 3] {
+/// Whether the trusts of a group's rows are known and not all the same.
+fn known_and_different(group: &Group) -> bool {
+    group.least().is_some() && group.trusts.iter().any(|trust| *trust != group.trusts[0])
+}
+
+/// The kinds by what was seen in an evaluation; none where a call is refused or there is no group.
+fn kinds_of_seen(totals: &Totals, answered: bool, seen: &rows::Seen) -> [Kind; 5] {
     let grouped = answered && !totals.groups.is_empty();
-    let kept = grouped && left_rows.error_kept();
+    let kept = grouped && seen.error_kept();
     let free = totals.groups.len() > 1 && totals.groups.iter().any(|group| group.cell.is_none());
+    let not_least = grouped && seen.means.not_least();
     [
         ("a left row kept on an error", 12_000, kept),
         ("a left row kept on an error, and a free group and others", 4_000, kept && free),
-        ("a left row with an error beside a true", 500, grouped && left_rows.error_beside_true()),
+        ("a left row with an error beside a true", 500, grouped && seen.error_beside_true()),
+        ("a mean that is not the least", 5_000, not_least),
+        (
+            "a mean that is not the least, and a group of different trusts, all known",
+            1_000,
+            not_least && totals.groups.iter().any(known_and_different),
+        ),
     ]
 }
 
@@ -186,12 +212,12 @@ struct Seen {
 }
 
 impl Seen {
-    fn count(&mut self, totals: &Totals, left_rows: &rows::Seen, lengths: [usize; 2]) {
+    fn count(&mut self, totals: &Totals, seen: &rows::Seen, lengths: [usize; 2]) {
         let number = totals.refusal(lengths).number;
         self.numbers[number as usize] += 1;
         self.kinds.count(&kinds_of_groups(totals, number == 0));
         self.kinds.count(&kinds_of_lengths(totals, lengths));
-        self.kinds.count(&kinds_of_left_rows(totals, number == 0, left_rows));
+        self.kinds.count(&kinds_of_seen(totals, number == 0, seen));
     }
 
     fn enough(&self, report: &mut Report) {
@@ -207,11 +233,11 @@ impl Seen {
 fn random_cases(report: &mut Report) {
     let (mut random, mut outputs) = (Random::new(3), Outputs::new(4));
     let large = tables::large(MOST_RECORDS + 1);
-    let (mut seen, mut left_out) = (Seen::default(), 0);
+    let (mut seen, mut in_rows, mut left_out) = (Seen::default(), rows::Seen::default(), 0);
     for number in 0..RANDOM_CASES {
         let (table, query) = random_inputs(&mut random, &large);
-        let mut left_rows = rows::Seen::default();
-        let Some(outcome) = rows::evaluate_within(&table, &query, MOST_SPACE, MOST_STEPS, &mut left_rows) else {
+        let (inputs, mut here) = ((&table[..], &query[..], outputs.spaces.choice()), rows::Seen::default());
+        let Some(outcome) = rows::evaluate_within(inputs, MOST_SPACE, MOST_STEPS, &mut here) else {
             left_out += 1;
             continue;
         };
@@ -226,35 +252,39 @@ fn random_cases(report: &mut Report) {
             [spaces[0], random.pick(&rooms)],
             [random.pick(&spaces), random.pick(&rooms)],
         ] {
-            outputs.test(report, &what, (&table, &query), &totals, lengths);
-            seen.count(&totals, &left_rows, lengths);
+            outputs.test(report, &what, inputs, &totals, lengths);
+            seen.count(&totals, &here, lengths);
         }
         if totals.variable < VARIABLES {
             let lengths = [random.pick(&spaces[..2]), random.pick(&rooms)];
-            outputs.test_beside(report, &what, (&table, &query), totals.variable, lengths);
+            outputs.test_beside(report, &what, inputs, totals.variable, lengths);
+            in_rows.add(&here);
         }
     }
     println!("random cases: {}; left out: {left_out}", RANDOM_CASES - left_out);
     report.case(RANDOM_CASES - left_out >= 100_000, || "too many random cases are left out".to_string());
     seen.enough(report);
+    in_rows.means.enough(report, "random cases", 1_000);
 }
 
 fn on_threads(report: &mut Report) {
     let make = |random: &mut Random| loop {
         let (table, query) = inputs::narrow(random, &mut [[0; KINDS]; KINDS]);
-        let evaluated = rows::evaluate_within(&table, &query, MOST_SPACE, MOST_STEPS / 10, &mut rows::Seen::default());
-        if let Some(outcome) = evaluated {
+        let choice = random.pick(&CHOICES);
+        let inputs = (&table[..], &query[..], choice);
+        if let Some(outcome) = rows::evaluate_within(inputs, MOST_SPACE, MOST_STEPS / 10, &mut rows::Seen::default()) {
             let totals = Totals::new(&outcome, outputs::variable(random, &outcome));
             let lengths = [random.pick(&spaces::lengths(&outcome)), random.pick(&outputs::rooms(&totals))];
             let tally = Tally { answered: random.below(9) as u32, refused: u32::MAX };
             let (answer, after, mut written) = totals.answer(lengths, tally);
             written.resize(lengths[1], 0x5A);
-            break (table, query, totals.variable, tally, (answer, after.unwrap_or(vec![0xA5; lengths[0]]), written));
+            let expected = (answer, after.unwrap_or(vec![0xA5; lengths[0]]), written);
+            break (table, query, choice, totals.variable, tally, expected);
         }
     };
-    threads::all_right(report, make, |(table, query, variable, tally, expected)| {
+    threads::all_right(report, make, |(table, query, choice, variable, tally, expected)| {
         let (mut space, mut output) = (vec![0xA5; expected.1.len()], vec![0x5A; expected.2.len()]);
-        let got = ffi::totals(table, query, *variable, &mut space, &mut output, *tally);
+        let got = ffi::totals((table, query, *choice), *variable, &mut space, &mut output, *tally);
         (got, space, output) == *expected
     });
 }
@@ -275,7 +305,8 @@ fn chain_inputs(query: &[u8]) -> (Vec<u8>, [usize; 2]) {
     (chains::table(), [chains::SPACE * ROW_WORDS, CHAIN_ROOM])
 }
 
-fn deepest() -> Deepest<(Totalled, Vec<u32>, Vec<u32>)> {
+/// By each choice.
+fn deepest() -> Deepest<[(Totalled, Vec<u32>, Vec<u32>); CHOICES.len()]> {
     let many = Chain { name: "many groups".to_string(), query: vectors::query(many_groups::LINKS), refusal: NONE };
     let chains = chains::all(&[], CHECK_LIMIT).into_iter().chain(chains::of_many_pairs(CHECK_LIMIT));
     Deepest {
@@ -285,15 +316,19 @@ fn deepest() -> Deepest<(Totalled, Vec<u32>, Vec<u32>)> {
         shallow_kib: SHALLOW,
         call: |query| {
             let (table, [words, room]) = chain_inputs(query);
-            let (mut space, mut output) = (vec![0xA5; words], vec![0x5A; room]);
-            (ffi::totals(&table, query, 0, &mut space, &mut output, CHAIN_TALLY), space, output)
+            CHOICES.map(|choice| {
+                let (mut space, mut output) = (vec![0xA5; words], vec![0x5A; room]);
+                (ffi::totals((&table, query, choice), 0, &mut space, &mut output, CHAIN_TALLY), space, output)
+            })
         },
         expected: |query| {
             let (table, [words, room]) = chain_inputs(query);
-            let outcome = rows::evaluate(&table, query);
-            let (answer, after, mut written) = Totals::of_many(&outcome, 0).answer([words, room], CHAIN_TALLY);
-            written.resize(room, 0x5A);
-            (answer, after.unwrap_or(vec![0xA5; words]), written)
+            CHOICES.map(|choice| {
+                let outcome = rows::evaluate((&table, query, choice));
+                let (answer, after, mut written) = Totals::of_many(&outcome, 0).answer([words, room], CHAIN_TALLY);
+                written.resize(room, 0x5A);
+                (answer, after.unwrap_or(vec![0xA5; words]), written)
+            })
         },
     }
 }
@@ -305,6 +340,8 @@ fn parts(report: &mut Report) {
     known_totals::records(report);
     known_totals::trusts(report);
     known_totals::errors(report);
+    known_totals::means(report);
+    known_totals::cells_of_means(report);
     known_totals::few(report);
     report.part("entries by hand");
     refused_totals::first(report);
@@ -314,6 +351,7 @@ fn parts(report: &mut Report) {
     refused_totals::null_pointers(report);
     report.part("refusals by hand");
     at_limits(report);
+    CHOICES.into_iter().for_each(|choice| null_pointers(report, choice));
     report.part("limits");
     random_cases(report);
     report.part("random cases");

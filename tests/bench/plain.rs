@@ -1,6 +1,6 @@
 //! Tests the plain C evaluation that the bench times (bench/evaluate/plain.c), linked under the name `randwyler_evaluate`,
-//! against an independent evaluation (rows.rs) of random queries and of joins with many rows. The last line is
-//! 'N passed, M failed'.
+//! against an independent evaluation (rows.rs) of random queries, by least and by mean, and of joins with many rows. The last line
+//! is 'N passed, M failed'.
 
 #[path = "../archive/compared.rs"]
 mod compared;
@@ -18,6 +18,8 @@ mod left_joins;
 mod left_rows;
 #[path = "../archive/many_rows.rs"]
 mod many_rows;
+#[path = "../archive/means.rs"]
+mod means;
 #[path = "../archive/paper.rs"]
 mod paper;
 #[path = "../archive/push.rs"]
@@ -37,6 +39,7 @@ mod tables;
 #[path = "../archive/vectors.rs"]
 mod vectors;
 
+use paper::CHOICES;
 use queries::KINDS;
 use random::Random;
 use report::Report;
@@ -56,13 +59,15 @@ fn main() {
             1 => left_joins::inputs(&mut random),
             _ => inputs::narrow(&mut random, &mut [[0; KINDS]; KINDS]),
         };
-        let Some(outcome) = rows::evaluate_within(&table, &query, MOST_SPACE, MOST_STEPS, &mut seen) else { continue };
+        let inputs = (&table[..], &query[..], random.pick(&CHOICES));
+        let Some(outcome) = rows::evaluate_within(inputs, MOST_SPACE, MOST_STEPS, &mut seen) else { continue };
         let lengths = spaces::lengths(&outcome);
         for words in [lengths[0], lengths[1], random.pick(&lengths[2..])] {
-            spaces.test(&mut report, &format!("case {number}"), (&table, &query), &outcome, words);
+            spaces.test(&mut report, &format!("case {number}"), inputs, &outcome, words);
         }
     }
     left_rows::enough(&mut report, &seen, "random cases", 1_000);
+    seen.means.enough(&mut report, "random cases", 500);
     // The right rows of large joins are chained here too.
     many_rows::one_bucket(&mut report);
     many_rows::set_in_some(&mut report);

@@ -22,12 +22,12 @@ struct randwyler_rewritten randwyler_rewrite(const uint8_t *query, size_t query_
 
 /* Two rows: 1000, and 900 with variable 0 bound to 7. */
 struct randwyler_evaluated randwyler_evaluate(const uint8_t *table, size_t table_len, const uint8_t *query, size_t query_len,
-                                              uint32_t *space, size_t space_len, struct randwyler_tally tally)
+                                              bool mean, uint32_t *space, size_t space_len, struct randwyler_tally tally)
 {
     static int evaluations = 0;
     int lie = evaluations++ == 0 ? HONEST : query[1];
     struct randwyler_evaluated answer = {.rows = 2, .peak = 5, .pairs = 6, .tally = tally};
-    (void)table, (void)table_len, (void)query_len;
+    (void)table, (void)table_len, (void)query_len, (void)mean;
     memset(space, 0, space_len * sizeof *space);
     space[VARIABLES] = 2000;
     space[ROW_WORDS] = 7;

@@ -8,6 +8,8 @@ mod ffi;
 #[path = "../archive/kinds.rs"]
 mod kinds;
 mod known;
+#[path = "../archive/means.rs"]
+mod means;
 #[path = "../archive/paper.rs"]
 mod paper;
 #[path = "../archive/random.rs"]
@@ -25,7 +27,7 @@ mod trees;
 mod vectors;
 
 use known::Known;
-use paper::{Kind, Node, Record, Tally, CHECK_LIMIT, NONE};
+use paper::{Inputs, Kind, Node, Record, Tally, CHECK_LIMIT, CHOICES, NONE};
 use random::Random;
 use report::{hex, Report};
 use rows::{Row, Value, ROW_WORDS};
@@ -50,13 +52,20 @@ fn row(words: &[u32]) -> Row {
     Row { values, trust: None }
 }
 
-/// The rows that the archive lists; none if they are too many.
-fn evaluate(table: &[u8], query: &[u8]) -> Option<Vec<Row>> {
+/// The rows that the archive lists by a choice; none if they are too many.
+fn evaluate_by(inputs: Inputs) -> Option<Vec<Row>> {
     let mut space = [0; SPACE * ROW_WORDS];
-    let answer = ffi::evaluate(table, query, &mut space, Tally { answered: 0, refused: 0 });
-    assert!([0, 8].contains(&answer.refusal.number), "refused {}: {}", answer.refusal, hex(query));
+    let answer = ffi::evaluate(inputs, &mut space, Tally { answered: 0, refused: 0 });
+    assert!([0, 8].contains(&answer.refusal.number), "refused {}: {}", answer.refusal, hex(inputs.1));
     let rows = answer.rows as usize;
     (answer.refusal == NONE && rows <= MOST_ROWS).then(|| space.chunks(ROW_WORDS).take(rows).map(row).collect())
+}
+
+/// The same by least. By mean they have the same cells, since the trusts in cells are those of sets of one pattern.
+fn evaluate(table: &[u8], query: &[u8]) -> Option<Vec<Row>> {
+    let [least, mean] = CHOICES.map(|choice| evaluate_by((table, query, choice)));
+    assert_eq!(least, mean, "other cells by mean than by least: {} {}", hex(table), hex(query));
+    least
 }
 
 /// A node of a query, the archive's rows of its operands and of itself, and its group about the former.

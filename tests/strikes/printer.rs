@@ -1,6 +1,6 @@
 //! What `strikes` prints for the bytes of its two files, written from document 01.
 
-use crate::paper::{refusal, Refusal, NONE};
+use crate::paper::{refusal, Choice, Refusal, NONE};
 use crate::rows::{self, Outcome, Row, Seen, Trust, Value, ROW_WORDS};
 
 /// The longest facts file, in bytes.
@@ -31,13 +31,13 @@ pub enum Run {
     Answered { rows: Vec<Row>, peak: usize, pairs: u64, left_rows: Seen },
 }
 
-/// The run on these bytes, where an absent file has none; none if it takes over `steps` steps.
+/// The run on these bytes, where an absent file has none; none if it takes over `steps` steps. The program evaluates by least.
 pub fn run(facts: &[u8], query: &[u8], steps: u64) -> Option<Run> {
     if facts.len() > MOST_FACTS {
         return Some(Run::Refused(refusal(2, 0)));
     }
     let mut left_rows = Seen::default();
-    let outcome = rows::evaluate_within(facts, query, CAPACITY, steps, &mut left_rows)?;
+    let outcome = rows::evaluate_within((facts, query, Choice::Least), CAPACITY, steps, &mut left_rows)?;
     let refused = outcome.refusal(CAPACITY * ROW_WORDS);
     Some(match outcome {
         Outcome::Rows(evaluation) if refused == NONE => {

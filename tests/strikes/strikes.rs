@@ -11,6 +11,8 @@ mod inputs;
 mod known_texts;
 #[path = "../archive/limits.rs"]
 mod limits;
+#[path = "../archive/means.rs"]
+mod means;
 #[path = "../archive/paper.rs"]
 mod paper;
 mod printer;

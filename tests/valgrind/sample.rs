@@ -15,6 +15,8 @@ mod groups;
 mod inputs;
 #[path = "../archive/left_joins.rs"]
 mod left_joins;
+#[path = "../archive/means.rs"]
+mod means;
 #[path = "../archive/outputs.rs"]
 mod outputs;
 #[path = "../archive/paper.rs"]
@@ -37,7 +39,7 @@ mod tables;
 mod vectors;
 
 use groups::Totals;
-use paper::Tally;
+use paper::{Inputs, Tally, CHOICES};
 use queries::KINDS;
 use random::Random;
 use report::Report;
@@ -50,8 +52,9 @@ const MOST_STEPS: u64 = 1_000;
 const BEHIND: usize = 8;
 const TALLY: Tally = Tally { answered: 4, refused: u32::MAX };
 
-/// All calls with one table and one query; answers whether a left row of a left join was kept on an error.
-fn test(report: &mut Report, random: &mut Random, what: &str, table: &[u8], query: &[u8]) -> bool {
+/// All calls with one table and one query; counts what the evaluation saw.
+fn test(report: &mut Report, random: &mut Random, what: &str, inputs: Inputs, seen: &mut Seen) {
+    let (table, query, _) = inputs;
     report.check(what, table, query, paper::check(table, query), ffi::check(table, query));
     report.ceiling(what, table, query, ceilings::ceiling(table, query), ffi::ceiling(table, query));
     let pushed = push::rewriting(query, &mut push::Seen::default());
@@ -67,24 +70,22 @@ fn test(report: &mut Report, random: &mut Random, what: &str, table: &[u8], quer
             report.case(right, || format!("{what}: wrong bytes after rewrite {} {room}", report::hex(query)));
         }
     }
-    let mut seen = Seen::default();
-    let Some(outcome) = rows::evaluate_within(table, query, MOST_SPACE, MOST_STEPS, &mut seen) else { return false };
+    let Some(outcome) = rows::evaluate_within(inputs, MOST_SPACE, MOST_STEPS, seen) else { return };
     let lengths = spaces::lengths(&outcome);
     for words in [lengths[0], lengths[1], random.pick(&lengths)] {
         let (expected, after) = outcome.answer(words, TALLY);
-        let (got, space) = ffi::evaluate_unwritten(table, query, words, TALLY);
-        report.evaluate(what, (table, query), words, expected, got);
+        let (got, space) = ffi::evaluate_unwritten(inputs, words, TALLY);
+        report.evaluate(what, inputs, words, expected, got);
         // There is nothing to compare where a refusal leaves the words that nobody wrote, or where there are none.
         if after.as_ref().is_some_and(|words| !words.is_empty()) {
             report.case(space == after, || format!("{what}: wrong words"));
         }
     }
-    test_totals(report, random, what, (table, query), &outcome);
-    seen.error_kept()
+    test_totals(report, random, what, inputs, &outcome);
 }
 
 /// Totals of a variable. An output with nothing written in it shows what an answer depends on, one with noise what is written.
-fn test_totals(report: &mut Report, random: &mut Random, what: &str, inputs: (&[u8], &[u8]), outcome: &Outcome) {
+fn test_totals(report: &mut Report, random: &mut Random, what: &str, inputs: Inputs, outcome: &Outcome) {
     let totals = Totals::new(outcome, outputs::variable(random, outcome));
     let (variable, spaces, rooms) = (totals.variable, spaces::lengths(outcome), outputs::rooms(&totals));
     for [words, room] in [[spaces[1], rooms[0]], [spaces[1], rooms[1]], [random.pick(&spaces), random.pick(&rooms)]] {
@@ -95,7 +96,7 @@ fn test_totals(report: &mut Report, random: &mut Random, what: &str, inputs: (&[
         let before: Vec<u32> = random.noise(room);
         let mut output = before.clone().into_boxed_slice();
         let mut space = random.noise::<u32>(words).into_boxed_slice();
-        let got = ffi::totals(inputs.0, inputs.1, variable, &mut space, &mut output, TALLY);
+        let got = ffi::totals(inputs, variable, &mut space, &mut output, TALLY);
         report.totals(what, inputs, (variable, words, room), expected, got);
         let right = output.starts_with(&written) && output[written.len()..] == before[written.len()..];
         report.case(right, || format!("{what}: wrong words in the output"));
@@ -104,7 +105,7 @@ fn test_totals(report: &mut Report, random: &mut Random, what: &str, inputs: (&[
 
 fn main() {
     let (mut report, mut random) = (Report::default(), Random::new(1));
-    let mut errors = 0;
+    let (mut errors, mut means) = (0, 0);
     for number in 0..CASES {
         let (table, query) = match number % 8 {
             0 | 4 => inputs::unions(&mut random),
@@ -113,9 +114,13 @@ fn main() {
         };
         // A boxed slice has no room behind its end.
         let (table, query) = (table.into_boxed_slice(), query.into_boxed_slice());
-        errors += u64::from(test(&mut report, &mut random, &format!("case {number}"), &table, &query));
+        let (inputs, mut seen) = ((&table[..], &query[..], random.pick(&CHOICES)), Seen::default());
+        test(&mut report, &mut random, &format!("case {number}"), inputs, &mut seen);
+        errors += u64::from(seen.error_kept());
+        means += u64::from(seen.means.not_least());
     }
-    println!("cases with a left row kept on an error: {errors}");
+    println!("cases with a left row kept on an error: {errors}; with a mean that is not the least: {means}");
     report.case(errors >= 50, || format!("only {errors} cases with a left row kept on an error"));
+    report.case(means >= 50, || format!("only {means} cases with a mean that is not the least"));
     std::process::exit(report.finish());
 }

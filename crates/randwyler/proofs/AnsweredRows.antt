@@ -12,12 +12,15 @@ use Rattle.tsparql.specs.Values.{Row}
 use Rattle.tsparql.specs.Query.{Node}
 use Rattle.tsparql.specs.Table.{Fact, View, wholeTable, factsIn}
 use Rattle.tsparql.specs.Reading.{queryNode}
-use Rattle.tsparql.specs.PatternSets.{least, setRows, rowsOver}
+use Rattle.tsparql.specs.PatternSets.{Aggregate, Aggregation, aggregate, setRows, rowsOver}
 use Rattle.tsparql.specs.WellFormed.{Bytes}
 use Rattle.tsparql.specs.Check.{Passes, check}
 use Rattle.tsparql.specs.Evaluate.{rowLength, rowWords, answer, answeredWith}
 use Rattle.tsparql.specs.Calls.{evaluateUntallied}
 use Rattle.tsparql.proofs.SpaceLaws.{count-space-≤}
+use Rattle.tsparql.proofs.TableLaws.{facts-sound}
+use Rattle.tsparql.proofs.MeanLaws.{aggregate-sound}
+use Rattle.tsparql.proofs.QueryLaws.{check-parts}
 use Rattle.tsparql.proofs.EvaluateLaws.{answer-fits, answer-passes, evaluate-answered}
 use Rattle.rows.specs.RowWords.{rowsIn, RowFormed, RowsHeld, Front}
 use Rattle.rows.proofs.RowWordLaws.{rowsIn-written, length-written, front-rows, front-held}
@@ -32,35 +35,37 @@ use Rattle.randwyler.proofs.Evaluations.{ready-seen, ready-node}
 
 -- ---- of a query that passed the check
 
-module _ (v : View) (t s : List ℕ) (ready : Ready v t s) where
+module _ (g : Aggregation) (v : View) (t s : List ℕ) (ready : Ready v t s) where
   -- the answer is that of the query's tree
-  pub ready-answers : {words : ℕ} {out : List ℕ} {r : QueryRows} → Answers (factsIn v t) (nodeOf s) words out r
-      → Answers (factsIn v t) (queryNode s) words out r
+  pub ready-answers : {words : ℕ} {out : List ℕ} {r : QueryRows} → Answers (aggregate g) (factsIn v t) (nodeOf s) words out r
+      → Answers (aggregate g) (factsIn v t) (queryNode s) words out r
   ready-answers {words} {out} {r} a =
-      subst (λ (q : Node). Answers (factsIn v t) q words out r) (ready-node v t s ready .1) a
+      subst (λ (q : Node). Answers (aggregate g) (factsIn v t) q words out r) (ready-node v t s ready .1) a
 
-  pub ready-formed : Bytes t → Every RowFormed (rowsOver least (factsIn v t) (queryNode s))
-  ready-formed bytes = rows-formed (factsIn v t) (facts-formed v t (ready-seen v t s ready) bytes) (queryNode s)
+  pub ready-formed : Bytes t → Every RowFormed (rowsOver (aggregate g) (factsIn v t) (queryNode s))
+  ready-formed bytes =
+      rows-formed (aggregate g) (aggregate-sound g) (factsIn v t) (facts-formed v t (ready-seen v t s ready) bytes)
+      (facts-sound v t (check-parts t s (ready .passed) .0)) (queryNode s)
 
 -- ---- the rows
 
-module _ {fs : List Fact} {q : Node} {words : ℕ} {out : List ℕ} {n p k : ℕ} (formed : Every RowFormed (rowsOver least fs q))
-    (a : Answers fs q words out (Q.Rows n p k)) where
+module _ {g : Aggregate} {fs : List Fact} {q : Node} {words : ℕ} {out : List ℕ} {n p k : ℕ}
+    (formed : Every RowFormed (rowsOver g fs q)) (a : Answers g fs q words out (Q.Rows n p k)) where
   abbrev rs : List Row
-  rs = rowsOver least fs q
+  rs = rowsOver g fs q
 
-  passed : Passes (answer least fs q words .refusal)
+  passed : Passes (answer g fs q words .refusal)
   passed = ap (λ e. e .refusal .number) (sym (a .answer-is))
 
-  answered-is : answer least fs q words ≡ answeredWith least fs q words
-  answered-is = answer-fits least fs q words (answer-passes least fs q words passed)
+  answered-is : answer g fs q words ≡ answeredWith g fs q words
+  answered-is = answer-fits g fs q words (answer-passes g fs q words passed)
 
   pub answered-count : n ≡ length rs
   answered-count = ap (λ e. e .rows) (a .answer-is ∙ answered-is)
 
   pub answered-few : n ≤ 65535
   answered-few =
-      omega (arith, answered-count, count-space-≤ (setRows least fs) q, answer-passes least fs q words passed)
+      omega (arith, answered-count, count-space-≤ (setRows g fs) q, answer-passes g fs q words passed)
 
   front : Front rs out
   front =
@@ -75,15 +80,15 @@ module _ {fs : List Fact} {q : Node} {words : ℕ} {out : List ℕ} {n p k : ℕ
 
 -- ---- of an answered evaluation
 
-module _ (t s ws : List ℕ) (z : Passes (evaluateUntallied t s ws .refusal)) where
+module _ (t s : List ℕ) (g : Aggregation) (ws : List ℕ) (z : Passes (evaluateUntallied t s g ws .refusal)) where
   pub evaluation-checked : Passes (check t s)
-  evaluation-checked = evaluate-answered least (wholeTable t) t s ws z .checked
+  evaluation-checked = evaluate-answered (aggregate g) (wholeTable t) t s ws z .checked
 
   -- the rows that the row space shows are those of the query
   pub rows-stand : Bytes t
-      → rowsIn (evaluateUntallied t s ws .rows) (evaluateUntallied t s ws .rowSpace)
-      ≡ rowsOver least (factsIn (wholeTable t) t) (queryNode s)
+      → rowsIn (evaluateUntallied t s g ws .rows) (evaluateUntallied t s g ws .rowSpace)
+      ≡ rowsOver (aggregate g) (factsIn (wholeTable t) t) (queryNode s)
   rows-stand bytes =
-      rw (evaluate-answered least (wholeTable t) t s ws z .answer-is)
-      (rowsIn-written (rowsOver least (factsIn (wholeTable t) t) (queryNode s)) _
-      (ready-formed (wholeTable t) t s (record { passed = evaluation-checked; seen = refl }) bytes))
+      rw (evaluate-answered (aggregate g) (wholeTable t) t s ws z .answer-is)
+      (rowsIn-written (rowsOver (aggregate g) (factsIn (wholeTable t) t) (queryNode s)) _
+      (ready-formed g (wholeTable t) t s (record { passed = evaluation-checked; seen = refl }) bytes))

@@ -8,7 +8,7 @@ use lib.ListN.{length}
 use Rattle.tsparql.specs.Table.{View, wholeTable, factsIn}
 use Rattle.tsparql.specs.Check.{refuse, passes, check, evaluateLimit}
 use Rattle.tsparql.specs.Reading.{queryNode}
-use Rattle.tsparql.specs.PatternSets.{least}
+use Rattle.tsparql.specs.PatternSets.{Aggregate, Aggregation, aggregate}
 use Rattle.tsparql.specs.Evaluate.{refusedWith, answer}
 use Rattle.tsparql.specs.Calls.{Tally, raiseOne, tallied, EvaluateAnswer, evaluate}
 use Rattle.tsparql.proofs.QueryLaws.{query-checked, check-parts}
@@ -36,30 +36,32 @@ ready-node v t s h =
 -- ---- the tally
 
 -- the answer to a checked query, with the tally
-abbrev pub answered : View → List ℕ → List ℕ → Tally → ℕ → EvaluateAnswer
-answered v t s a words =
-    let e = answer least (factsIn v t) (queryNode s) words in record { evaluated = e; tally = tallied a (e .refusal) }
+abbrev pub answered : Aggregate → View → List ℕ → List ℕ → Tally → ℕ → EvaluateAnswer
+answered g v t s a words =
+    let e = answer g (factsIn v t) (queryNode s) words in record { evaluated = e; tally = tallied a (e .refusal) }
 
-pub counted : (v : View) (t s : List ℕ) (a : Tally) (ws out : List ℕ) (r : QueryRows) → Ready v t s
-    → Answers (factsIn v t) (nodeOf s) (length ws) out r
-    → record { evaluated = answeredIn r out; tally = raiseOne (isAnswered r) a } ≡ answered v t s a (length ws)
+pub counted : (g : Aggregate) (v : View) (t s : List ℕ) (a : Tally) (ws out : List ℕ) (r : QueryRows) → Ready v t s
+    → Answers g (factsIn v t) (nodeOf s) (length ws) out r
+    → record { evaluated = answeredIn r out; tally = raiseOne (isAnswered r) a } ≡ answered g v t s a (length ws)
 unfolding tallied
-counted v t s a ws out r h e =
+counted g v t s a ws out r h e =
     let is = ready-node v t s h .1 in
-    let here : answeredIn r out ≡ answer least (factsIn v t) (queryNode s) (length ws) = rw is at (e .answer-is) in
-    let told : isAnswered r ≡ passes (answer least (factsIn v t) (queryNode s) (length ws) .refusal) = rw is at (e .sound) in
+    let here : answeredIn r out ≡ answer g (factsIn v t) (queryNode s) (length ws) = rw is at (e .answer-is) in
+    let told : isAnswered r ≡ passes (answer g (factsIn v t) (queryNode s) (length ws) .refusal) = rw is at (e .sound) in
     rw (here, told)
 
 -- ---- the call
 
-pub evaluate-refuses : (t s : List ℕ) (a : Tally) (ws : List ℕ) {n p : ℕ} → Checked t s (Refused n p)
-    → _≡_ {A = EvaluateAnswer} (record { evaluated = refusedWith (refuse n p) ws; tally = raiseOne false a }) (evaluate a t s ws)
+pub evaluate-refuses : (t s : List ℕ) (g : Aggregation) (ws : List ℕ) (a : Tally) {n p : ℕ} → Checked t s (Refused n p)
+    → _≡_ {A = EvaluateAnswer} (record { evaluated = refusedWith (refuse n p) ws; tally = raiseOne false a }) (evaluate t s g ws a)
 unfolding tallied
-evaluate-refuses t s a ws h =
+evaluate-refuses t s g ws a h =
     let no = sym (h .sound) in
-    let refused = evaluate-refused least (wholeTable t) t s ws (eqb-false (check t s .number) 0 no) in
+    let refused = evaluate-refused (aggregate g) (wholeTable t) t s ws (eqb-false (check t s .number) 0 no) in
     rw (refused, h .refusal, no)
 
-pub evaluate-answers : (v : View) (t s : List ℕ) (a : Tally) (ws : List ℕ) → Ready v t s → (x : EvaluateAnswer)
-    → x ≡ answered v t s a (length ws) → x ≡ evaluate a t s ws
-evaluate-answers v t s a ws h x e = e ∙ rw (evaluate-checked least (wholeTable t) t s ws (h .passed), h .seen)
+-- by the choice g, or what is the same choice
+pub evaluate-answers : (v : View) (t s : List ℕ) (g : Aggregation) (ws : List ℕ) (a : Tally) → Ready v t s → {same : Aggregation}
+    → same ≡ g → (x : EvaluateAnswer) → x ≡ answered (aggregate same) v t s a (length ws) → x ≡ evaluate t s g ws a
+evaluate-answers v t s g ws a h is x e =
+    e ∙ rw (is, evaluate-checked (aggregate g) (wholeTable t) t s ws (h .passed), h .seen)

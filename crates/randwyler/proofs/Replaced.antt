@@ -5,7 +5,7 @@ use mathlib.Core.List.{List}
 use Prim.Native.Nat.{ℕ}
 use Rattle.tsparql.specs.Query.{EverySet}
 use Rattle.tsparql.specs.Table.{wholeTable, recordAt, factOf}
-use Rattle.tsparql.specs.PatternSets.{least}
+use Rattle.tsparql.specs.PatternSets.{Aggregation, aggregate}
 use Rattle.tsparql.specs.Reading.{queryNode}
 use Rattle.tsparql.specs.Check.{Passes, tableRefusal}
 use Rattle.tsparql.specs.Calls.{evaluateUntallied, ceilingCall}
@@ -18,12 +18,13 @@ use Rattle.randwyler.proofs.Checks.{whole-seen}
 
 module _ (g : ℕ) (t u s : List ℕ) (alike : AlikeUpTo g (wholeTable t) (wholeTable u) t u) (accepted : Passes (tableRefusal t))
     (also-accepted : Passes (tableRefusal u)) (named : EverySet (NamedBelow (factOf (recordAt t g) .subject)) (queryNode s)) where
-  pub evaluate-replaced : (ws : List ℕ) → evaluateUntallied t s ws ≡ evaluateUntallied u s ws
-  evaluate-replaced ws =
+  pub evaluate-replaced : (choice : Aggregation) (ws : List ℕ) → evaluateUntallied t s choice ws ≡ evaluateUntallied u s choice ws
+  evaluate-replaced choice ws =
       let v = wholeTable t in
       let w = wholeTable u in
-      evaluate-alike least v w t u s ws accepted also-accepted
-      (everySet-weaken (setRows-replaced g v w t u alike (whole-seen t accepted) (whole-seen u also-accepted) least) (queryNode s) named)
+      evaluate-alike (aggregate choice) v w t u s ws accepted also-accepted
+      (everySet-weaken (setRows-replaced g v w t u alike (whole-seen t accepted) (whole-seen u also-accepted) (aggregate choice))
+      (queryNode s) named)
 
   pub ceiling-replaced : ceilingCall t s ≡ ceilingCall u s
   ceiling-replaced =

@@ -16,7 +16,7 @@ use Rattle.tsparql.specs.Totals as Totals
 use Rattle.tsparql.specs.Totals.{totalsWords, totalsRefused, totalsAfter}
 use Rattle.tsparql.specs.Evaluate as Evaluate
 use Rattle.tsparql.specs.Evaluate.{refusedWith, answer}
-use Rattle.tsparql.specs.PatternSets.{least, rowsOver}
+use Rattle.tsparql.specs.PatternSets.{Aggregate, Aggregation, byLeast, byMean, rowsOver}
 use Rattle.tsparql.specs.Reading.{queryNode}
 use Rattle.table.specs.Answers.{noRecords}
 use Rattle.randwyler.specs.declared.CheckAnswer.{CheckAnswer}
@@ -64,6 +64,11 @@ ceilingIn r = record { refusal = refuse (r .number) (r .place); ceiling = r .cei
 
 -- ---- evaluation
 
+-- the choice that a caller's flag stands for
+abbrev pub chosen : Bool → Aggregation
+chosen true = byMean
+chosen false = byLeast
+
 abbrev pub tallyIn : Tally → Calls.Tally
 tallyIn a = record { answered = a .answered; refused = a .refused }
 
@@ -87,9 +92,9 @@ pub record Ready (v : Table.View) (t s : List ℕ) : Type 0 where
   pub seen : v ≡ wholeTable t
 
 -- the answer to a checked query, counted by its refusal
-abbrev pub Answered : Table.View → List ℕ → List ℕ → Calls.Tally → List ℕ → List ℕ → Evaluated → Type 0
-Answered v t s a ws out r =
-    let e : Evaluate.Evaluated = answer least (factsIn v t) (queryNode s) (length ws) in
+abbrev pub Answered : Aggregate → Table.View → List ℕ → List ℕ → Calls.Tally → List ℕ → List ℕ → Evaluated → Type 0
+Answered g v t s a ws out r =
+    let e : Evaluate.Evaluated = answer g (factsIn v t) (queryNode s) (length ws) in
     evaluatedIn r out ≡ record { evaluated = e; tally = tallied a (e .refusal) }
 
 -- ---- totals
@@ -112,11 +117,12 @@ abbrev pub TotalsRefusedWith : ℕ → ℕ → Calls.Tally → Totalled → Type
 TotalsRefusedWith n p a r = (ws out : List ℕ) → totalsIn r ws out ≡ noTotals n p ws out a
 
 -- the totals of a checked query in so many words of row space, counted by their refusal
-abbrev pub totalsChecked : List Fact → Node → ℕ → ℕ → List ℕ → Calls.Tally → Totals.TotalsAnswer
-totalsChecked fs q u words out a =
-    let x : Totals.Totals = totalsAfter (answer least fs q words) (totalsWords u (rowsOver least fs q)) out in
+abbrev pub totalsChecked : Aggregate → List Fact → Node → ℕ → ℕ → List ℕ → Calls.Tally → Totals.TotalsAnswer
+totalsChecked g fs q u words out a =
+    let x : Totals.Totals = totalsAfter (answer g fs q words) (totalsWords u (rowsOver g fs q)) out in
     record { totals = x; tally = tallied a (x .refusal) }
 
 -- the answer is these totals
-abbrev pub TotalsAnswered : Table.View → List ℕ → List ℕ → ℕ → List ℕ → List ℕ → Calls.Tally → List ℕ → List ℕ → Totalled → Type 0
-TotalsAnswered v t s u ws out a ws′ out′ r = totalsIn r ws′ out′ ≡ totalsChecked (factsIn v t) (queryNode s) u (length ws) out a
+abbrev pub TotalsAnswered : Aggregate → Table.View → List ℕ → List ℕ → ℕ → List ℕ → List ℕ → Calls.Tally → List ℕ → List ℕ → Totalled
+    → Type 0
+TotalsAnswered g v t s u ws out a ws′ out′ r = totalsIn r ws′ out′ ≡ totalsChecked g (factsIn v t) (queryNode s) u (length ws) out a

@@ -8,12 +8,14 @@ ghost use Rattle.tsparql.specs.Calls.{ceilingCall, ceilingRefused, raised, rais
 ghost use Rattle.tsparql.specs.Totals.{totalsCall};
 ghost use Rattle.patterns.specs.Matching.{viewOf};
 ghost use Rattle.randwyler.specs.Answers.{Checked, refusalIn, rewrittenIn, ceilingIn};
-ghost use Rattle.randwyler.specs.Answers.{tallyIn, evaluatedIn, RefusedWith, Ready, Answered};
+ghost use Rattle.patterns.specs.Sets.{aggregationOf, aggregateOf};
+ghost use Rattle.randwyler.specs.Answers.{chosen, tallyIn, evaluatedIn, RefusedWith, Ready, Answered};
 ghost use Rattle.randwyler.specs.Answers.{totalsIn, TotalsRefusedWith, TotalsAnswered};
 use ceiling::CeilingRead;
 use ceiling::ceiling_node;
 use evaluation::QueryRows;
 use evaluation::answer;
+use patterns::Aggregation;
 use rewriting::RewriteAnswer;
 use rewriting::rewrite;
 use scope::QueryAnswer;
@@ -201,6 +203,17 @@ fn evaluation_refused(number: u32, place: usize, a: Tally) -> Evaluated
     }
 }
 
+// The mean where the caller asks for it, else the least.
+fn chosen_aggregation(mean: bool) -> Aggregation
+    ensures { λ r. ⌜ aggregationOf r ≡ chosen mean ⌝ }
+{
+    if mean {
+        Aggregation::Mean
+    } else {
+        Aggregation::Least
+    }
+}
+
 // The answer to a checked query, counted in the tally.
 fn evaluate_checked(
     table: &[u8],
@@ -208,12 +221,13 @@ fn evaluate_checked(
     query: &[u8],
     space: &mut [u32],
     tally: Tally,
+    g: Aggregation,
 ) -> Evaluated
     requires { ⌜ Ready (viewOf view) (now table) (now query) ⌝ }
-    ensures { λ r. ⌜ Answered (viewOf view) (now (table .entry)) (now (query .entry)) (tallyIn tally)
+    ensures { λ r. ⌜ Answered (aggregateOf g) (viewOf view) (now (table .entry)) (now (query .entry)) (tallyIn tally)
         (now (space .entry)) (now (space .exit)) r ⌝ }
 {
-    match answer(table, view, query, space) {
+    match answer(table, view, query, space, g) {
         QueryRows::Refused { number, place } => evaluation_refused(number, place, tally),
         QueryRows::Rows { rows, peak, pairs } => Evaluated {
             number: NO_REFUSAL,
@@ -226,22 +240,24 @@ fn evaluate_checked(
     }
 }
 
-// The evaluation of a query over a table in a lent row space: refusals 1 to 7 with the row space untouched, 8 with it all zero; else the
-// rows at the front and zeros behind them.
+// The evaluation of a query over a table in a lent row space, by mean or least trust: refusals 1 to 7 with the row space untouched, 8 with
+// it all zero; else the rows at the front and zeros behind them.
 #[no_mangle]
 pub extern "C" fn randwyler_evaluate(
     table: &[u8],
     query: &[u8],
+    mean: bool,
     space: &mut [u32],
     tally: Tally,
 ) -> Evaluated
     ensures { λ r. ⌜ evaluatedIn r (now (space .exit))
-        ≡ evaluate (tallyIn tally) (now (table .entry)) (now (query .entry)) (now (space .entry)) ⌝ }
+        ≡ evaluate (now (table .entry)) (now (query .entry)) (chosen mean) (now (space .entry)) (tallyIn tally) ⌝ }
 {
+    let g = chosen_aggregation(mean);
     let c = check_both(table, query);
     match c {
         CheckAnswer::Refused { number, place } => evaluation_refused(number, place, tally),
-        CheckAnswer::Sound(view) => evaluate_checked(table, view, query, space, tally),
+        CheckAnswer::Sound(view) => evaluate_checked(table, view, query, space, tally, g),
     }
 }
 
@@ -281,12 +297,13 @@ fn totals_checked(
     space: &mut [u32],
     output: &mut [u32],
     tally: Tally,
+    g: Aggregation,
 ) -> Totalled
     requires { ⌜ Ready (viewOf view) (now table) (now query) × (variable < 16) ⌝ }
-    ensures { λ r. ⌜ TotalsAnswered (viewOf view) (now (table .entry)) (now (query .entry)) variable
+    ensures { λ r. ⌜ TotalsAnswered (aggregateOf g) (viewOf view) (now (table .entry)) (now (query .entry)) variable
         (now (space .entry)) (now (output .entry)) (tallyIn tally) (now (space .exit)) (now (output .exit)) r ⌝ }
 {
-    let a = answer(table, view, query, space);
+    let a = answer(table, view, query, space, g);
     match a {
         QueryRows::Refused { number, place } => totals_refused(number, place, tally),
         QueryRows::Rows {
@@ -315,14 +332,16 @@ fn totals_checked(
 pub extern "C" fn randwyler_totals_of(
     table: &[u8],
     query: &[u8],
+    mean: bool,
     variable: u32,
     space: &mut [u32],
     output: &mut [u32],
     tally: Tally,
 ) -> Totalled
     ensures { λ r. ⌜ totalsIn r (now (space .exit)) (now (output .exit)) ≡ totalsCall (now (table .entry)) (now (query .entry))
-        variable (now (space .entry)) (now (output .entry)) (tallyIn tally) ⌝ }
+        (chosen mean) variable (now (space .entry)) (now (output .entry)) (tallyIn tally) ⌝ }
 {
+    let g = chosen_aggregation(mean);
     let c = check_both(table, query);
     match c {
         CheckAnswer::Refused { number, place } => totals_refused(number, place, tally),
@@ -330,7 +349,16 @@ pub extern "C" fn randwyler_totals_of(
             if variable > LAST_VARIABLE {
                 return totals_refused(10, 0, tally);
             }
-            totals_checked(table, view, query, variable as usize, space, output, tally)
+            totals_checked(
+                table,
+                view,
+                query,
+                variable as usize,
+                space,
+                output,
+                tally,
+                g,
+            )
         }
     }
 }

@@ -9,7 +9,7 @@ use lib.Dec.{ltb}
 use lib.ListN.{length, take, replicate}
 use lib.Seq.{take-all, length-take-le}
 use Rattle.tsparql.specs.Table.{wholeTable}
-use Rattle.tsparql.specs.PatternSets.{least}
+use Rattle.tsparql.specs.PatternSets.{byLeast, aggregate}
 use Rattle.tsparql.specs.Check.{Refusal, refuse, Passes, passes, orElse, tableRefusal, queryRefusal, evaluateLimit, check}
 use Rattle.tsparql.specs.Evaluate.{rowLength, refusedWith}
 use Rattle.tsparql.specs.Strikes.{refusedLine, factsLimit, programRows, strikes}
@@ -35,7 +35,7 @@ long-query t s h l =
     let ws : List ℕ = replicate (rowLength * programRows) 0 in
     let c = check-long t s l in
     let z : Passes (check t s) → ⊥ = rw c (five-refuses (tableRefusal t)) in
-    rw (evaluated-facts t s h, evaluate-refused least (wholeTable t) t s ws z)
+    rw (evaluated-facts t s h, evaluate-refused (aggregate byLeast) (wholeTable t) t s ws z)
     (report-refused (refusedWith (check t s) ws) (listed t s) z ∙ ap refusedLine c)
 
 -- ---- the fronts of the files

@@ -9,7 +9,7 @@ use lib.ListN.{length, replicate, length-append}
 use Rattle.tsparql.specs.Lists.{concatMap, Every}
 use Rattle.tsparql.specs.Values.{Row}
 use Rattle.tsparql.specs.Table.{wholeTable, factsIn}
-use Rattle.tsparql.specs.PatternSets.{least, rowsOver}
+use Rattle.tsparql.specs.PatternSets.{byLeast, aggregate, rowsOver}
 use Rattle.tsparql.specs.Reading.{queryNode}
 use Rattle.tsparql.specs.Check.{refuse, Passes, passes, check}
 use Rattle.tsparql.specs.Evaluate.{rowLength, Evaluated}
@@ -44,34 +44,34 @@ report-same x rs ss h = go (passes (x .refusal)) (λ e. h (eqb-true (x .refusal 
 
 -- ---- the rows in the row space
 
--- the rows that a query lists
+-- the rows that a query lists, by least trust
 abbrev pub listed : List ℕ → List ℕ → List Row
-listed t s = rowsOver least (factsIn (wholeTable t) t) (queryNode s)
+listed t s = rowsOver (aggregate byLeast) (factsIn (wholeTable t) t) (queryNode s)
 
 pub listed-formed : (t s : List ℕ) → Bytes t → Passes (check t s) → Every RowFormed (listed t s)
-listed-formed t s bytes z = ready-formed (wholeTable t) t s (record { passed = z; seen = refl }) bytes
+listed-formed t s bytes z = ready-formed byLeast (wholeTable t) t s (record { passed = z; seen = refl }) bytes
 
 module _ (t s ws : List ℕ) (bytes : Bytes t) where
-  rows-room : Passes (evaluateUntallied t s ws .refusal)
-      → rowLength * evaluateUntallied t s ws .rows ≤ length (evaluateUntallied t s ws .rowSpace)
+  rows-room : Passes (evaluateUntallied t s byLeast ws .refusal)
+      → rowLength * evaluateUntallied t s byLeast ws .rows ≤ length (evaluateUntallied t s byLeast ws .rowSpace)
   rows-room z =
-      let a = evaluate-answered least (wholeTable t) t s ws z in
+      let a = evaluate-answered (aggregate byLeast) (wholeTable t) t s ws z in
       rw (a .answer-is, length-append, length-written (listed t s) (listed-formed t s bytes (a .checked))) (omega arith)
 
   -- a call's answer, whatever its tally
-  module _ (a : Tally) (x : EvaluateAnswer) (e : x ≡ evaluate a t s ws) where
-    evaluated-is : x .evaluated ≡ evaluateUntallied t s ws
+  module _ (a : Tally) (x : EvaluateAnswer) (e : x ≡ evaluate t s byLeast ws a) where
+    evaluated-is : x .evaluated ≡ evaluateUntallied t s byLeast ws
     evaluated-is = ap (λ y. y .evaluated) e
 
     pub answer-room : Passes (x .evaluated .refusal) → rowLength * x .evaluated .rows ≤ length (x .evaluated .rowSpace)
     answer-room z = rw evaluated-is (rows-room (rw evaluated-is at z))
 
     pub answer-report : report (x .evaluated) (rowsIn (x .evaluated .rows) (x .evaluated .rowSpace))
-        ≡ report (evaluateUntallied t s ws) (listed t s)
+        ≡ report (evaluateUntallied t s byLeast ws) (listed t s)
     answer-report =
-        rw evaluated-is (report-same (evaluateUntallied t s ws)
-        (rowsIn (evaluateUntallied t s ws .rows) (evaluateUntallied t s ws .rowSpace)) (listed t s)
-        (λ z. rows-stand t s ws z bytes))
+        rw evaluated-is (report-same (evaluateUntallied t s byLeast ws)
+        (rowsIn (evaluateUntallied t s byLeast ws .rows) (evaluateUntallied t s byLeast ws .rowSpace)) (listed t s)
+        (λ z. rows-stand t s byLeast ws z bytes))
 
 -- ---- the whole text
 
@@ -81,6 +81,6 @@ long-facts t s h = rw (lt-ltb factsLimit (length t) h)
 
 pub evaluated-facts : (t s : List ℕ) → length t ≤ factsLimit
     → strikes t s
-    ≡ report (evaluateUntallied t s (replicate (rowLength * programRows) 0)) (listed t s)
+    ≡ report (evaluateUntallied t s byLeast (replicate (rowLength * programRows) 0)) (listed t s)
 unfolding strikes
 evaluated-facts t s h = rw (le-ltb factsLimit (length t) h)

@@ -1,6 +1,6 @@
 // The text of the program `strikes` from the bytes of its two files: the evaluation in a row space of 963 rows, and its report.
 ghost use Rattle.tsparql.specs.Table.{wholeTable, factsIn};
-ghost use Rattle.tsparql.specs.PatternSets.{least, rowsOver};
+ghost use Rattle.tsparql.specs.PatternSets.{byLeast, aggregate, rowsOver};
 ghost use Rattle.tsparql.specs.Reading.{queryNode};
 ghost use Rattle.tsparql.specs.Calls.{evaluateUntallied};
 ghost use Rattle.tsparql.specs.Strikes.{report, strikes};
@@ -33,17 +33,17 @@ fn put_report(e: Evaluated, space: &[u32], out: &mut [u8], at: usize) -> usize
     put_rows(space, rows as usize, out, counts)
 }
 
-// The report of the evaluation of a query in a lent row space.
+// The report of the evaluation of a query by least trust in a lent row space.
 fn put_evaluation(facts: &[u8], query: &[u8], space: &mut [u32], out: &mut [u8], at: usize) -> usize
-    ensures { λ r. ⌜ Puts (report (evaluateUntallied (now (facts .entry)) (now (query .entry)) (now (space .entry)))
-        (rowsOver least (factsIn (wholeTable (now (facts .entry))) (now (facts .entry))) (queryNode (now (query .entry))))) at
+    ensures { λ r. ⌜ Puts (report (evaluateUntallied (now (facts .entry)) (now (query .entry)) byLeast (now (space .entry)))
+        (rowsOver (aggregate byLeast) (factsIn (wholeTable (now (facts .entry))) (now (facts .entry))) (queryNode (now (query .entry))))) at
         (now (out .entry)) (now (out .exit)) r ⌝ }
 {
     let none = Tally {
         answered: 0,
         refused: 0,
     };
-    let e = randwyler_evaluate(facts, query, space, none);
+    let e = randwyler_evaluate(facts, query, false, space, none);
     put_report(e, space, out, at)
 }
 

@@ -11,7 +11,7 @@ use borrow.Author.Tests.{eqb-true, eqb-false, eq-eqb, ne-eqb}
 use lib.ListN.{length}
 use Rattle.tsparql.specs.Query.{EverySet}
 use Rattle.tsparql.specs.Table.{View, wholeTable, factsIn}
-use Rattle.tsparql.specs.PatternSets.{Aggregate, least, setRows}
+use Rattle.tsparql.specs.PatternSets.{Aggregate, Aggregation, aggregate, setRows}
 use Rattle.tsparql.specs.Ceiling.{greatest32, product, productFigure, ceilingOf}
 use Rattle.tsparql.specs.Reading.{queryNode}
 use Rattle.tsparql.specs.Check.{Refusal, Passes, passes, tableRefusal, queryRefusal, evaluateLimit, check}
@@ -66,13 +66,13 @@ pub record EvaluateFits (words : ℕ) (e : Evaluated) : Type 0 where
   pub pairs-fit : Passes (e .refusal) → e .pairs < 2 ^ 64
   pub length-kept : length (e .rowSpace) ≡ words
 
-pub evaluate-fits : (a : Tally) (t s ws : List ℕ) → EvaluateFits (length ws) (evaluate a t s ws .evaluated)
-evaluate-fits a t s ws =
+pub evaluate-fits : (t s : List ℕ) (g : Aggregation) (ws : List ℕ) (a : Tally) → EvaluateFits (length ws) (evaluate t s g ws a .evaluated)
+evaluate-fits t s g ws a =
     record {
-      refusal-fits = evaluate-refusal-fits least (wholeTable t) t s ws;
-      peak-fits = rows-peak-≤ least (wholeTable t) t s ws;
-      pairs-fit = evaluate-pairs-< least (wholeTable t) t s ws;
-      length-kept = length-space least (wholeTable t) t s ws;
+      refusal-fits = evaluate-refusal-fits (aggregate g) (wholeTable t) t s ws;
+      peak-fits = rows-peak-≤ (aggregate g) (wholeTable t) t s ws;
+      pairs-fit = evaluate-pairs-< (aggregate g) (wholeTable t) t s ws;
+      length-kept = length-space (aggregate g) (wholeTable t) t s ws;
     }
 
 -- ---- ceiling
@@ -109,9 +109,9 @@ unfolding ceilingOver
 ceiling-alike v w t u s h k e =
     rw (check-alike t u s h k, ceilingOf-cong (productFigure (factsIn v t)) (productFigure (factsIn w u)) (queryNode s) e)
 
--- an answered evaluation has at most the ceiling's rows
-pub rows-≤-ceilingCall : (a : Tally) (t s ws : List ℕ) → Passes (evaluate a t s ws .evaluated .refusal)
-    → evaluate a t s ws .evaluated .rows ≤ ceilingCall t s .ceiling
-rows-≤-ceilingCall a t s ws z =
-    rw (ceiling-checked (wholeTable t) t s (evaluate-answered least (wholeTable t) t s ws z .checked))
-    (rows-≤-ceiling least (wholeTable t) t s ws z)
+-- an answered evaluation has at most the ceiling's rows, by either choice
+pub rows-≤-ceilingCall : (t s : List ℕ) (g : Aggregation) (ws : List ℕ) (a : Tally) → Passes (evaluate t s g ws a .evaluated .refusal)
+    → evaluate t s g ws a .evaluated .rows ≤ ceilingCall t s .ceiling
+rows-≤-ceilingCall t s g ws a z =
+    rw (ceiling-checked (wholeTable t) t s (evaluate-answered (aggregate g) (wholeTable t) t s ws z .checked))
+    (rows-≤-ceiling (aggregate g) (wholeTable t) t s ws z)

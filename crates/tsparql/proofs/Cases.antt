@@ -1,8 +1,8 @@
 -- The worked cases of document 01 and some more, as one table about the definitions with one proof, by computation.
 -- An entry has what the definitions give on its left and what document 01, 000 or a request says on its right, worked out by hand (texts go
 -- through `ascii`, and one printout stands in numbers). Groups: cases 1 to 9; rows, order, trust and solutions; push; conditions;
--- ceilings and tallies; totals; refusals and their places. Inputs are in hexadecimal. Printouts are computed by a form of `strikes` that
--- works nothing out twice. Assumes nothing.
+-- ceilings and tallies; means; totals; refusals and their places. Inputs are in hexadecimal. Printouts are computed by a form of `strikes`
+-- that works nothing out twice. Assumes nothing.
 use mathlib.Core.Path.{_≡_, refl, ap, _∙_}
 use mathlib.Core.Bool.{Bool, true, false, not, cond}
 use mathlib.Core.List.{List, [], _∷_, _++_, map, map-congr-left}
@@ -17,7 +17,8 @@ use Rattle.tsparql.specs.Query.{Slot, aTerm, aVariable, Pattern}
 use Rattle.tsparql.specs.Conditions.{truthOn, trueOn}
 use Rattle.tsparql.specs.Rows.{stands, rowsOf, spaceOf, pairsOf}
 use Rattle.tsparql.specs.Table.{Fact, bigEndian, recordAt, factOf, below, wholeTable, factAt, factsIn}
-use Rattle.tsparql.specs.PatternSets.{bindPattern, matches, choices, least, setRows, rowsOver, spaceOver, pairsOver}
+use Rattle.tsparql.specs.PatternSets.{bindPattern, matches, choices, least, mean, Aggregation, byLeast, byMean, aggregate, setRows}
+use Rattle.tsparql.specs.PatternSets.{rowsOver, spaceOver, pairsOver}
 use Rattle.tsparql.specs.Tuples.{tuples, tupleRows}
 use Rattle.tsparql.specs.Ceiling.{matching, product, ceilingOf}
 use Rattle.tsparql.specs.Push.{push}
@@ -75,6 +76,10 @@ lowAndHigh = hex "00 00 10 00 0A 00 00 BD 78" ++ hex "00 00 10 00 14 00 01 5F 6C
 negative : List ℕ
 negative = hex "00 00 10 00 0A 00 00 BB E3" ++ hex "00 00 10 00 14 00 01 58 00"
 
+-- (1,10,11) 0, (1,10,12) 0 and (1,10,13) -1
+thirds : List ℕ
+thirds = hex "00 00 10 00 0A 00 00 BB E8" ++ (hex "00 00 10 00 0A 00 00 CB E8" ++ hex "00 00 10 00 0A 00 00 DB E7")
+
 -- the sets {?0 20 21}, {?0 10 ?1} and {?2 20 21}
 A : List ℕ
 A = hex "01 10 00 00 00 00 14 00 00 15"
@@ -114,6 +119,20 @@ atMost500 q = hex "60 00 05 DC" ++ q
 joinAB : List ℕ
 joinAB = hex "10" ++ (A ++ B)
 
+-- the patterns ?0 10 11, ?0 10 12 and ?0 10 ?1
+p11 : List ℕ
+p11 = hex "10 00 00 00 00 0A 00 00 0B"
+
+p12 : List ℕ
+p12 = hex "10 00 00 00 00 0A 00 00 0C"
+
+pAny : List ℕ
+pAny = hex "10 00 00 00 00 0A 10 00 01"
+
+-- the join of {?0 10 11, ?0 10 12} and A
+joinTwo : List ℕ
+joinTwo = hex "10 02" ++ (p11 ++ (p12 ++ A))
+
 -- the left join of A and B under a condition
 leftAB : List ℕ → List ℕ
 leftAB c = hex "20" ++ (c ++ (A ++ B))
@@ -131,9 +150,16 @@ worked-is [] = refl
 worked-is (b ∷ s) = ap (λ (r : List ℕ). b ∷ r) (worked-is s)
 
 -- an evaluation in so many words, all 7 at first: number, place, rows, peak, pairs, and the row space at the end
-evaluated : List ℕ → List ℕ → ℕ → List ℕ
-evaluated t q words = let e = evaluateUntallied t q (replicate words 7) in
+evaluatedBy : Aggregation → List ℕ → List ℕ → ℕ → List ℕ
+evaluatedBy g t q words = let e = evaluateUntallied t q g (replicate words 7) in
     e .refusal .number ∷ e .refusal .place ∷ e .rows ∷ e .peak ∷ e .pairs ∷ e .rowSpace
+
+evaluated : List ℕ → List ℕ → ℕ → List ℕ
+evaluated t q words = evaluatedBy byLeast t q words
+
+-- the lines of the rows of a query by the mean
+meanLines : List ℕ → List ℕ → List ℕ
+meanLines t q = concatMap rowLine (rowsOver mean (factsIn (wholeTable t) t) (queryNode q))
 
 -- number and place of the check
 checked : List ℕ → List ℕ → List ℕ
@@ -152,17 +178,20 @@ fields : List ℕ → List ℕ
 fields t = let f = factOf (recordAt t 0) in f .subject ∷ f .predicate ∷ f .object ∷ trustWord (f .trust) ∷ []
 
 -- totals over W by a variable in so many words and into so many, all 7 at first: number, place, length, and the output at the end
-totalled : List ℕ → ℕ → ℕ → ℕ → List ℕ
-totalled q u words out = let x = totalsUntallied W q u (replicate words 7) (replicate out 7) in
+totalledBy : Aggregation → List ℕ → ℕ → ℕ → ℕ → List ℕ
+totalledBy g q u words out = let x = totalsUntallied W q g u (replicate words 7) (replicate out 7) in
     x .refusal .number ∷ x .refusal .place ∷ x .size ∷ x .output
+
+totalled : List ℕ → ℕ → ℕ → ℕ → List ℕ
+totalled q u words out = totalledBy byLeast q u words out
 
 -- their row space at the end
 totalledSpace : List ℕ → ℕ → ℕ → ℕ → List ℕ
-totalledSpace q u words out = totalsUntallied W q u (replicate words 7) (replicate out 7) .rowSpace
+totalledSpace q u words out = totalsUntallied W q byLeast u (replicate words 7) (replicate out 7) .rowSpace
 
 -- a query over W in the space of one row
 request : List ℕ → Request
-request q = record { table = W; query = q; rowSpace = replicate 17 7 }
+request q = record { table = W; query = q; aggregation = byLeast; rowSpace = replicate 17 7 }
 
 -- an evaluation of it; totals by ?0 into so many words
 evaluation : List ℕ → TalliedCall
@@ -400,6 +429,35 @@ figureCases =
     ∷ (tallies zeroTally (totalsInto 3 (hex "00") ∷ evaluation (hex "00") ∷ totalsInto 2 (hex "00") ∷ []) gives 2 ∷ 1 ∷ [])
     ∷ []
 
+-- means (request 4)
+meanCases : List Case
+meanCases =
+    -- {?0 10 ?1, ?2 20 21}: of 900 and 800, 900 and unknown, 200 and 800, 200 and unknown
+    (meanLines W (hex "02" ++ (pAny ++ hex "10 00 02 00 00 14 00 00 15"))
+    gives ascii "850 ?0=1 ?1=11 ?2=1\n? ?0=1 ?1=11 ?2=2\n500 ?0=1 ?1=12 ?2=1\n? ?0=1 ?1=12 ?2=2\n")
+    -- {?0 10 11, ?0 10 ?1}: a record that both patterns use counts once
+    ∷ (meanLines W (hex "02" ++ (p11 ++ pAny)) gives ascii "900 ?0=1 ?1=11\n550 ?0=1 ?1=12\n")
+    -- {?0 10 11, ?0 10 ?1, ?0 10 11}: 550, and not 666
+    ∷ (meanLines W (hex "03" ++ (p11 ++ (pAny ++ p11))) gives ascii "900 ?0=1 ?1=11\n550 ?0=1 ?1=12\n")
+    -- of -5 and -1000: -502.5, rounded down; of 0, 0 and -1: a third less than 0, rounded down
+    ∷ (meanLines negative (hex "02" ++ (pAny ++ hex "10 00 00 00 00 14 00 00 15")) gives ascii "-503 ?0=1 ?1=11\n")
+    ∷ (meanLines thirds (hex "03" ++ (p11 ++ (p12 ++ hex "10 00 00 00 00 0A 00 00 0D"))) gives ascii "-1 ?0=1\n")
+    -- the empty set
+    ∷ (meanLines W (hex "00") gives ascii "1000\n")
+    -- a join has the lesser of 550 and 800
+    ∷ (meanLines W joinTwo gives ascii "550 ?0=1\n")
+    -- a bound at the mean, and a thousandth above it
+    ∷ (meanLines W (hex "60 60 E7 D0" ++ joinTwo) gives ascii "550 ?0=1\n")
+    ∷ (meanLines W (hex "60 60 F7 D0" ++ joinTwo) gives [])
+    -- pushed to the operands, a bound keeps the row whose least record is below it
+    ∷ (rewriting (E joinTwo) gives hex "10" ++ (E (hex "02" ++ (p11 ++ p12)) ++ E A))
+    ∷ (meanLines W (rewriting (E joinTwo)) gives ascii "550 ?0=1\n")
+    -- on the calls; the trust of a group is the least of its rows' means, 900 and 550
+    ∷ (evaluatedBy byMean W (hex "02" ++ (p11 ++ p12)) 17 gives 0 ∷ 0 ∷ 1 ∷ 1 ∷ 0 ∷ 1 ∷ (replicate 15 0 ++ (1550 ∷ [])))
+    ∷ (evaluatedBy byLeast W (hex "02" ++ (p11 ++ p12)) 17 gives 0 ∷ 0 ∷ 1 ∷ 1 ∷ 0 ∷ 1 ∷ (replicate 15 0 ++ (1200 ∷ [])))
+    ∷ (totalledBy byMean (hex "02" ++ (p11 ++ pAny)) 0 34 3 gives 0 ∷ 0 ∷ 3 ∷ 1 ∷ 2 ∷ 1550 ∷ [])
+    ∷ []
+
 -- totals (request 1)
 totalsCases : List Case
 totalsCases =
@@ -475,7 +533,7 @@ refusalCases =
     ∷ []
 
 pub cases : List Case
-cases = paperCases ++ (moreCases ++ (pushCases ++ (conditionCases ++ (figureCases ++ (totalsCases ++ refusalCases)))))
+cases = paperCases ++ (moreCases ++ (pushCases ++ (conditionCases ++ (figureCases ++ (meanCases ++ (totalsCases ++ refusalCases))))))
 
 -- ---- printouts, with nothing worked out twice
 
@@ -494,7 +552,8 @@ reported words t s =
     cond (passes r) (cond (ltb (capacity words) peak) (refusedLine (refuse 8 0)) answered) (refusedLine r)
 
 reported-is : (words : ℕ) (t s : List ℕ)
-    → report (evaluateUntallied t s (replicate words 0)) (rowsOver least (factsIn (wholeTable t) t) (queryNode s)) ≡ reported words t s
+    → report (evaluateUntallied t s byLeast (replicate words 0)) (rowsOver (aggregate byLeast) (factsIn (wholeTable t) t) (queryNode s))
+    ≡ reported words t s
 unfolding report evaluateOver answer countsLine reported
 reported-is words t s =
     rw (length-replicate {A = ℕ} words 0) (go (passes (check t s)) refl (ltb (capacity words) (spaceOver least fs (queryNode s))))
@@ -533,23 +592,27 @@ unfolding nibble nibbles inPairs hex W twoRecords lowAndHigh negative A B C none
 inputs = tt
 
 entries : Unit {0}
-unfolding evaluated checked ceilings rewritten fields noRows bothRows worked reported quick expected
+unfolding evaluatedBy evaluated checked ceilings rewritten fields noRows bothRows worked reported quick expected
 entries = tt
 
 totalling : Unit {0}
-unfolding totalled totalledSpace request evaluation totalsInto tallies
+unfolding totalledBy totalled totalledSpace request evaluation totalsInto tallies
 totalling = tt
+
+means : Unit {0}
+unfolding thirds p11 p12 pAny joinTwo meanLines
+means = tt
 
 sets : Unit {0}
 unfolding triple tupleLines setAB setTwice rowOf solutions counts nodeCardinality tuples tupleRows
 sets = tt
 
 lists : Unit {0}
-unfolding paperCases moreCases pushCases conditionCases figureCases totalsCases refusalCases cases
+unfolding paperCases moreCases pushCases conditionCases figureCases meanCases totalsCases refusalCases cases
 lists = tt
 
 rows : Unit {0}
-unfolding compatible mergeCells truthOn trueOn stands rowsOf spaceOf pairsOf bindPattern matches choices least setRows
+unfolding compatible mergeCells truthOn trueOn stands rowsOf spaceOf pairsOf bindPattern matches choices least mean setRows
 rows = tt
 
 tables : Unit {0}
@@ -578,7 +641,7 @@ text = tt
 
 -- every entry gives what it should
 quick-hold : map quick cases ≡ map expected cases
-unfolding inputs entries totalling sets lists rows tables writers readers calls figures text
+unfolding inputs entries totalling means sets lists rows tables writers readers calls figures text
 quick-hold = refl
 
 pub cases-hold : map computed cases ≡ map expected cases

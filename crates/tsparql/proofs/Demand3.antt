@@ -11,7 +11,7 @@ use lib.ListN.{length}
 use Rattle.tsparql.specs.Lists.{Every, concatMap}
 use Rattle.tsparql.specs.Query.{Node}
 use Rattle.tsparql.specs.Table.{Fact, View, wholeTable, factsIn}
-use Rattle.tsparql.specs.PatternSets.{SoundFact, SoundAggregate, Aggregate, least, setRows, spaceOver}
+use Rattle.tsparql.specs.PatternSets.{SoundFact, SoundAggregate, Aggregate, Aggregation, aggregate, setRows, spaceOver}
 use Rattle.tsparql.specs.Push.{noBound, push}
 use Rattle.tsparql.specs.Reading.{queryNode}
 use Rattle.tsparql.specs.Check.{Passes, noRefusal, passes, tableRefusal, queryRefusal, evaluateLimit, check}
@@ -22,7 +22,8 @@ use Rattle.tsparql.specs.Demand3.{AnswersNode, AnsweredAlike, Demand3}
 use Rattle.tsparql.proofs.PushRows.{rows-push, space-push-≤, pairs-push-≤}
 use Rattle.tsparql.proofs.RefusalLaws.{orElse-first, orElse-second}
 use Rattle.tsparql.proofs.TableLaws.{tableRefusal-cases, facts-sound}
-use Rattle.tsparql.proofs.ChoiceLaws.{least-sound, setRows-sound}
+use Rattle.tsparql.proofs.ChoiceLaws.{setRows-sound}
+use Rattle.tsparql.proofs.MeanLaws.{aggregate-sound}
 use Rattle.tsparql.proofs.QueryLaws.{rewriting-size-≤, queryNode-rewriting, query-passes, rewriting-passes}
 use Rattle.tsparql.proofs.RewriteLaws.{accepted-passes, accepted-written}
 use Rattle.tsparql.proofs.EvaluateLaws.{answer-fits, answer-cases, answer-passes, evaluate-checked, evaluate-refused}
@@ -159,8 +160,10 @@ pub demand3-over : (g : Aggregate) → SoundAggregate g → (v : View) (t s out 
 demand3-over g sound v t s out ws ws′ a same =
     rw (accepted-written s out a) (rewriting-demand3 g sound v t s (accepted-passes s out a) ws ws′ same)
 
--- on the calls, for every table, query and output, every two row spaces of one length and any two tallies
-pub demand3 : (t s out ws ws′ : List ℕ) (a a′ : Tally) → Accepted s out → length ws ≡ length ws′
-    → Demand3 least (wholeTable t) t s (written s out) (length ws)
-    (evaluate a t s ws .evaluated) (evaluate a′ t (written s out) ws′ .evaluated)
-demand3 t s out ws ws′ a a′ accepted same = demand3-over least least-sound (wholeTable t) t s out ws ws′ accepted same
+-- on the calls, for every table, query and output, either choice of an aggregate, one for the two evaluations, every two row spaces of one
+-- length and any two tallies
+pub demand3 : (t s out : List ℕ) (g : Aggregation) (ws ws′ : List ℕ) (a a′ : Tally) → Accepted s out → length ws ≡ length ws′
+    → Demand3 (aggregate g) (wholeTable t) t s (written s out) (length ws)
+    (evaluate t s g ws a .evaluated) (evaluate t (written s out) g ws′ a′ .evaluated)
+demand3 t s out g ws ws′ a a′ accepted same =
+    demand3-over (aggregate g) (aggregate-sound g) (wholeTable t) t s out ws ws′ accepted same

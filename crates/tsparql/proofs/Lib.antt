@@ -18,6 +18,7 @@ pub mod RefusalLaws
 pub mod ChoiceLaws
 pub mod TupleLaws
 pub mod TableLaws
+pub mod MeanLaws
 pub mod QueryLaws
 -- The calls
 pub mod CeilingLaws
@@ -29,6 +30,7 @@ pub mod TallyLaws
 pub mod Demand3
 -- The published algebra
 pub mod Cardinalities
+pub mod GraphLaws
 pub mod Solutions
 pub mod Published
 pub mod FreeVariables

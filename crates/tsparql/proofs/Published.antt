@@ -1,7 +1,7 @@
 -- Every node of a query that passes the check with its table has the cardinalities with the difference of SPARQL 1.1
 -- (`checked-sparql11`), and the published ones of every row on whose merges its condition does not err (`checked-published`): pattern
--- sets by Solutions, operators by Cardinalities. Groups: what a solution sets (`solution-set`); the least trust is an aggregate of a set
--- (`least-set`); nodes. Assumes nothing.
+-- sets by Solutions, operators by Cardinalities. Groups: what a solution sets (`solution-set`); the least trust is an aggregate of graphs
+-- (`least-set`), so both choices are (`aggregate-set`); nodes. Assumes nothing.
 use mathlib.Core.Path.{_≡_, refl, sym, ap, subst, _∙_}
 use mathlib.Core.Bool.{Bool, true, false, _&&_, _||_, and-comm, and-false}
 use mathlib.Core.List.{List, [], _∷_, _++_}
@@ -16,17 +16,18 @@ use Rattle.tsparql.specs.Values.{lesser, isFree, sameCell}
 use Rattle.tsparql.specs.Query.{Slot, aTerm, aVariable, Pattern}
 use Rattle.tsparql.specs.Query.{Node, patternSet, join, leftJoin, union, filter, projectTrust, ensureTrust}
 use Rattle.tsparql.specs.Table.{Fact, wholeTable, factsIn}
-use Rattle.tsparql.specs.PatternSets.{Aggregate, least, setRows}
+use Rattle.tsparql.specs.PatternSets.{Aggregate, least, Aggregation, byLeast, byMean, aggregate, setRows}
 use Rattle.tsparql.specs.Reading.{queryNode}
 use Rattle.tsparql.specs.WellFormed.{SlotFormed, PatternFormed, NodeFormed}
 use Rattle.tsparql.specs.Check.{Passes, slotVariables, variablesOf, evaluateLimit, check}
 use Rattle.tsparql.specs.Cardinality.{slotCell, becomes, becomesRecord, isSolution}
-use Rattle.tsparql.specs.Cardinality.{SetAggregate, setCardinality, Sparql11, Published, EveryNode}
+use Rattle.tsparql.specs.Cardinality.{SameRecords, SetAggregate, setCardinality, Sparql11, Published, EveryNode}
 use Rattle.tsparql.proofs.ListLaws.{and-left, and-right, and-both, and-interchange, test-eq}
 use Rattle.tsparql.proofs.ListLaws.{every-weaken, every-append, every-concatMap, allPass-passes}
 use Rattle.tsparql.proofs.TableLaws.{Rising, key, factsIn-rising}
 use Rattle.tsparql.proofs.QueryLaws.{check-parts, query-checked}
 use Rattle.tsparql.proofs.Cardinalities.{sameCell-true, cardinality-node, cardinality-noError}
+use Rattle.tsparql.proofs.GraphLaws.{mean-set}
 use Rattle.tsparql.proofs.Solutions.{becomes-parts, cardinality-set}
 
 -- ---- what a solution sets
@@ -63,7 +64,7 @@ solution-set fs ps cs e =
     (every-weaken (λ p k. anyPass-gives (Every (IsSet cs) (variablesOf p)) (becomes cs p) fs (becomes-set cs p) k) ps
     (allPass-passes (becomesRecord fs cs) ps (and-right (eqb (length cs) 16) _ (and-left _ _ e))))
 
--- ---- the least trust is an aggregate of a set
+-- ---- both choices are aggregates of graphs
 
 -- the trust is known, and k at least
 abbrev reaches : ℕ → Trust → Bool
@@ -99,10 +100,18 @@ reaches-same (known a) unknown h = absurd (omega (arith, leb-false 0 a (h 0)))
 reaches-same unknown (known b) h = absurd (omega (arith, leb-false 0 b (sym (h 0))))
 reaches-same unknown unknown h = refl
 
-pub least-set : SetAggregate least
-least-set us vs same =
+-- the same records have one least trust, whatever else they are
+pub least-same : (us vs : List Fact) → SameRecords us vs → least us ≡ least vs
+least-same us vs same =
     reaches-same (least us) (least vs)
     (λ k. least-reaches k us ∙ ap (λ (t : Bool). leb k 2000 && t) (same (λ f. reaches k (f .trust))) ∙ sym (least-reaches k vs))
+
+pub least-set : SetAggregate least
+least-set us vs _ same = least-same us vs same
+
+pub aggregate-set : (g : Aggregation) → SetAggregate (aggregate g)
+aggregate-set byLeast = least-set
+aggregate-set byMean = mean-set
 
 -- ---- nodes
 
@@ -118,7 +127,7 @@ formed-variables p h =
     slot (aTerm a) k = tt
     slot (aVariable v) k = (k, tt)
 
--- over facts whose triples rise, and an aggregate of a set of facts
+-- over facts whose triples rise, and an aggregate of graphs
 module _ (g : Aggregate) (set : SetAggregate g) (fs : List Fact) (k : Rising key fs) where
   -- the rows of a well-formed node have the cardinalities with the difference of SPARQL 1.1
   pub cardinality-formed : (q : Node) → NodeFormed q → Sparql11 g fs q

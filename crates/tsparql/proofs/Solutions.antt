@@ -33,6 +33,7 @@ use Rattle.tsparql.proofs.TableLaws.{Rising, key}
 use Rattle.tsparql.proofs.ChoiceLaws.{every-slot}
 use Rattle.tsparql.proofs.TupleLaws.{below16, map-cellAt, setRows-tuples}
 use Rattle.tsparql.proofs.Cardinalities.{sameCell-true, sameCell-refl, sameCells-true, sameCells-refl, cardinality-map}
+use Rattle.tsparql.proofs.GraphLaws.{rising-graph, graph-keepIf}
 
 -- ---- one variable
 
@@ -400,7 +401,8 @@ cardinality-set g set fs k ps h r =
     ∙ ap (keepIf trusts) (keepIf-and (long && others) said all ∙ ap (onlyIf (long && others)) (tuples-says fs (r .cells) k ps)))
     ∙ length-one long others (allPass (becomesRecord fs (r .cells)) ps) trusts (instances fs ps (r .cells))
     ∙ ap (λ (t : Trust). countIf (isSolution fs ps (r .cells) && sameTrust (r .trust) t) 1)
-    (set (instances fs ps (r .cells)) (subgraph fs ps (r .cells)) (instances-subgraph fs ps (r .cells)))
+    (set (instances fs ps (r .cells)) (subgraph fs ps (r .cells))
+    (graph-keepIf (λ f. anyPass (λ p. becomes (r .cells) p f) ps) fs (rising-graph fs k)) (instances-subgraph fs ps (r .cells)))
   where
     all : List (List Fact)
     all = tuples fs (length ps)

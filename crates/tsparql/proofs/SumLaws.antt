@@ -1,17 +1,18 @@
 -- Sums over lists; a test of sameness that is equality; the distinct elements by such a test, each as often as it stands in the list
--- (`sum-distinct`), once (`keepIf-distinct`), and of a list with one element more (`distinct-more`). Assumes nothing.
-use mathlib.Core.Path.{_≡_, refl, sym, ap, ap₂, _∙_}
-use mathlib.Core.Bool.{Bool, true, false, _&&_, _||_, not, not-and-self}
+-- (`sum-distinct`), once (`keepIf-distinct`), of a list with one element more (`distinct-more`), and of lists of the same elements
+-- (`distinct-sums`). Assumes nothing.
+use mathlib.Core.Path.{_≡_, refl, sym, ap, ap₂, subst, _∙_}
+use mathlib.Core.Bool.{Bool, true, false, _&&_, _||_, not, not-and-self, or-true}
 use mathlib.Core.List.{List, [], _∷_, _++_, map, append-nil, append-assoc}
 use Prim.Native.Nat.{ℕ, _+_, _*_, _≤_}
-use native.Mathlib.Nat.{le-refl, add-zero, zero-mul, mul-zero, mul-one, mul-add, suc-mul}
+use native.Mathlib.Nat.{le-refl, zero-add, add-zero, zero-mul, mul-zero, mul-one, mul-add, suc-mul}
 use native.Mathlib.Omega.{arith}
 use lib.ListN.{length, take, length-append}
 use borrow.Author.Tests.{not-true}
 use Rattle.tsparql.specs.Lists.{Every, consIf, keepIf, anyPass, distinctBy, sumOver}
 use Rattle.tsparql.specs.Cardinality.{countIf}
 use Rattle.tsparql.proofs.ListLaws.{and-right, and-both, test-eq, every-of, every-weaken, every-keepIf, length-keepIf}
-use Rattle.tsparql.proofs.ListLaws.{keepIf-append, keepIf-consIf, keepIf-keepIf, keepIf-cong, keepIf-none, keepIf-passes}
+use Rattle.tsparql.proofs.ListLaws.{keepIf-append, keepIf-consIf, keepIf-keepIf, keepIf-cong, keepIf-none, keepIf-passes, keepIf-map}
 
 -- ---- sums over lists
 
@@ -69,21 +70,34 @@ module _ {A : Type 0} where
   length-sum [] = refl
   length-sum (x ∷ xs) = omega (arith, length-sum xs)
 
-  -- the elements that pass a test, counted one by one
+  -- the elements that pass a test
+  pub sumOver-keepIf : (p : A → Bool) (xs : List A) (f : A → ℕ) → sumOver (keepIf p xs) f ≡ sumOver xs (λ x. countIf (p x) (f x))
+  sumOver-keepIf p [] f = refl
+  sumOver-keepIf p (x ∷ xs) f =
+      sumOver-consIf (p x) x (keepIf p xs) f ∙ ap (λ (n : ℕ). countIf (p x) (f x) + n) (sumOver-keepIf p xs f)
+
+  -- counted one by one
   pub length-keepIf-sum : (p : A → Bool) (xs : List A) → length (keepIf p xs) ≡ sumOver xs (λ x. countIf (p x) 1)
-  length-keepIf-sum p [] = refl
-  length-keepIf-sum p (x ∷ xs) =
-      omega (
-        arith,
-        length-sum (keepIf p (x ∷ xs)),
-        length-sum (keepIf p xs),
-        length-keepIf-sum p xs,
-        sumOver-consIf (p x) x (keepIf p xs) (λ y. 1),
-      )
+  length-keepIf-sum p xs = length-sum (keepIf p xs) ∙ sumOver-keepIf p xs (λ x. 1)
+
+  pub sumOver-append : (xs ys : List A) (f : A → ℕ) → sumOver (xs ++ ys) f ≡ sumOver xs f + sumOver ys f
+  sumOver-append [] ys f = sym (zero-add (sumOver ys f))
+  sumOver-append (x ∷ xs) ys f = omega (arith, sumOver-append xs ys f)
+
+  sumOver-zero : (xs : List A) → sumOver xs (λ x. 0) ≡ 0
+  sumOver-zero [] = refl
+  sumOver-zero (x ∷ xs) = omega (arith, sumOver-zero xs)
 
 pub sumOver-map : {A B : Type 0} (f : B → ℕ) (h : A → B) (xs : List A) → sumOver (map h xs) f ≡ sumOver xs (λ x. f (h x))
 sumOver-map f h [] = refl
 sumOver-map f h (x ∷ xs) = ap (λ (n : ℕ). f (h x) + n) (sumOver-map f h xs)
+
+-- a sum of sums, in either order
+sumOver-swap : {A B : Type 0} (xs : List A) (ys : List B) (h : A → B → ℕ)
+    → sumOver xs (λ x. sumOver ys (h x)) ≡ sumOver ys (λ y. sumOver xs (λ x. h x y))
+sumOver-swap [] ys h = sym (sumOver-zero ys)
+sumOver-swap (x ∷ xs) ys h =
+    ap (λ (n : ℕ). sumOver ys (h x) + n) (sumOver-swap xs ys h) ∙ sym (sumOver-add ys (h x) (λ y. sumOver xs (λ z. h z y)))
 
 -- ---- a test of sameness
 
@@ -111,6 +125,34 @@ module _ {A : Type 0} (same : A → A → Bool) where
   pub length-distinct : (xs : List A) → length (distinctBy same xs) ≤ length xs
   length-distinct [] = le-refl 0
   length-distinct (x ∷ xs) = omega (arith, length-distinct xs, length-keepIf (λ y. not (same x y)) (distinctBy same xs))
+
+-- by two tests that agree on the elements they are the same
+pub distinct-cong : {A : Type 0} (same other : A → A → Bool) (P : A → Type 0) → ((x y : A) → P x → P y → same x y ≡ other x y)
+    → (xs : List A) → Every P xs → distinctBy same xs ≡ distinctBy other xs
+distinct-cong same other P e [] h = refl
+distinct-cong {A = A} same other P e (x ∷ xs) h =
+    ap (λ (ys : List A). x ∷ keepIf (λ y. not (same x y)) ys) (distinct-cong same other P e xs (h .1))
+    ∙ ap (λ (ys : List A). x ∷ ys)
+    (keepIf-cong (λ y. not (same x y)) (λ y. not (other x y)) (distinctBy other xs)
+    (every-weaken (λ y k. ap not (e x y (h .0) k)) (distinctBy other xs) (every-distinct other P xs (h .1))))
+
+-- the distinct values of elements are those of elements with distinct values
+pub distinct-map : {A B : Type 0} (same : B → B → Bool) (f : A → B) (xs : List A)
+    → distinctBy same (map f xs) ≡ map f (distinctBy (λ x y. same (f x) (f y)) xs)
+distinct-map same f [] = refl
+distinct-map {B = B} same f (x ∷ xs) =
+    ap (λ (ys : List B). f x ∷ keepIf (λ y. not (same (f x) y)) ys) (distinct-map same f xs)
+    ∙ ap (λ (ys : List B). f x ∷ ys) (keepIf-map (λ y. not (same (f x) y)) f (distinctBy (λ y z. same (f y) (f z)) xs))
+
+-- where some element passes, one is kept
+some-kept : {A : Type 0} (p : A → Bool) (xs : List A) → anyPass p xs ≡ true → length (keepIf p xs) ≡ 0 → ⊥
+some-kept p [] e z = let no : _≡_ {A = ℕ} 0 1 = cc in omega arith
+some-kept p (x ∷ xs) e z = at (p x) e z (some-kept p xs)
+  where
+    at : (b : Bool) → b || anyPass p xs ≡ true → length (consIf b x (keepIf p xs)) ≡ 0
+        → (anyPass p xs ≡ true → length (keepIf p xs) ≡ 0 → ⊥) → ⊥
+    at true e z later = omega arith
+    at false e z later = later e z
 
 module _ {A : Type 0} (same : A → A → Bool) (tells : TellsSame same) where
   -- of the distinct elements, x is the one there is, if there is one
@@ -148,6 +190,53 @@ module _ {A : Type 0} (same : A → A → Bool) (tells : TellsSame same) where
       → sumOver (take 1 ys) f ≡ f x
   sumOver-first x [] f e h = sym (h refl)
   sumOver-first x (y ∷ ys) f e h = add-zero (f y) ∙ ap f (sym (tells .only x y (e .0)))
+
+  -- every element stands in its list
+  pub members : (xs : List A) → Every (λ x. anyPass (same x) xs ≡ true) xs
+  members [] = tt
+  members (x ∷ xs) = (
+    ap (λ (b : Bool). b || anyPass (same x) xs) (tells .self x),
+    every-weaken (λ y e. ap (λ (b : Bool). same y x || b) e ∙ or-true (same y x)) xs (members xs),
+  )
+
+  -- what holds of every element holds of one that stands there
+  pub every-member : (P : A → Type 0) (xs : List A) → Every P xs → (x : A) → anyPass (same x) xs ≡ true → P x
+  every-member P [] h x e = absurd (let no : _≡_ {A = ℕ} 0 1 = cc in omega arith)
+  every-member P (y ∷ ys) h x e = at (same x y) refl e (every-member P ys (h .1) x)
+    where
+      at : (b : Bool) → same x y ≡ b → b || anyPass (same x) ys ≡ true → (anyPass (same x) ys ≡ true → P x) → P x
+      at true d e later = subst P (sym (tells .only x y d)) (h .0)
+      at false d e later = later e
+
+  -- of the distinct elements, the one that x is gives what x gives
+  sum-one : (x : A) (ys : List A) (f : A → ℕ) → anyPass (same x) ys ≡ true
+      → sumOver (distinctBy same ys) (λ y. countIf (same x y) (f y)) ≡ f x
+  sum-one x ys f e =
+      sym (sumOver-keepIf (same x) (distinctBy same ys) f)
+      ∙ ap (λ (zs : List A). sumOver zs f) (keepIf-distinct x ys)
+      ∙ sumOver-first x (keepIf (same x) ys) f (keepIf-passes (same x) ys) (λ z. absurd (some-kept (same x) ys e z))
+
+  -- lists of the same elements have the same distinct ones, in whatever order
+  pub distinct-sums : (xs ys : List A) → ((x : A) → anyPass (same x) xs ≡ anyPass (same x) ys) → (f : A → ℕ)
+      → sumOver (distinctBy same xs) f ≡ sumOver (distinctBy same ys) f
+  distinct-sums xs ys h f =
+      sumOver-cong ds f (λ x. sumOver es (λ y. countIf (same x y) (f y)))
+      (every-weaken (λ x e. sym (sum-one x ys f (sym (h x) ∙ e))) ds (every-distinct same (Stands xs) xs (members xs)))
+      ∙ sumOver-swap ds es (λ x y. countIf (same x y) (f y))
+      ∙ sumOver-cong es (λ y. sumOver ds (λ x. countIf (same x y) (f y))) f
+      (every-weaken (λ y e. turned y ∙ sum-one y xs (λ _. f y) (h y ∙ e)) es (every-distinct same (Stands ys) ys (members ys)))
+    where
+      ds : List A
+      ds = distinctBy same xs
+
+      es : List A
+      es = distinctBy same ys
+
+      Stands : List A → A → Type 0
+      Stands zs z = anyPass (same z) zs ≡ true
+
+      turned : (y : A) → sumOver ds (λ x. countIf (same x y) (f y)) ≡ sumOver ds (λ x. countIf (same y x) (f y))
+      turned y = sumOver-same ds _ _ (λ x. ap (λ (b : Bool). countIf b (f y)) (same-sym same tells x y))
 
   -- how often an element stands in a list
   abbrev times : List A → A → ℕ

@@ -1,22 +1,24 @@
 -- What the check of a table gives: every record is sound and above the one before it; so every fact that a view shows has a trust of
--- at most 1000, and no triple stands twice in the whole table. Groups: records; the refusals; facts; facts rise. Assumes nothing.
-use mathlib.Core.Path.{_≡_, refl}
+-- at most 1000, and no triple stands twice in the whole table. Groups: records; the refusals; facts; facts rise; one triple is one record
+-- (`distinct-numbers`). Assumes nothing.
+use mathlib.Core.Path.{_≡_, refl, sym, ap, _∙_}
 use mathlib.Core.Bool.{Bool, true, false, _&&_, _||_, not, cond}
-use mathlib.Core.List.{List, [], _∷_}
+use mathlib.Core.List.{List, [], _∷_, map}
 use Prim.Native.Nat.{ℕ, zero, suc, _+_, _*_, _/_, _%_, _^_, _≤_, _<_}
 use native.Mathlib.Nat.{le-refl, add-zero}
 use native.Mathlib.Omega.{arith}
-use borrow.Author.Tests.{leb-true, eqb-true, ltb-true, ltb-false, not-false}
+use borrow.Author.Tests.{leb-true, eqb-true, eq-eqb, ltb-true, ltb-false, not-false}
 use lib.Dec.{eqb, leb, ltb}
 use lib.ListN.{length, drop-of-length-le}
-use Rattle.tsparql.specs.PatternSets.{SoundFact}
-use Rattle.tsparql.specs.Lists.{Every, concatMap, upFrom}
+use Rattle.tsparql.specs.PatternSets.{SoundFact, distinctRecords}
+use Rattle.tsparql.specs.Lists.{Every, distinctBy, concatMap, upFrom}
 use Rattle.tsparql.specs.Values.{Sound, known, unknown}
 use Rattle.tsparql.specs.Table.{Fact, bigEndian, recordLength, recordAt, knownBit, trustField, trustOf, factOf, termsNonzero}
-use Rattle.tsparql.specs.Table.{trustSound, recordSound, below, View, wholeTable, factAt, factsIn}
+use Rattle.tsparql.specs.Table.{trustSound, recordSound, sameTriple, below, View, wholeTable, factAt, factsIn}
 use Rattle.tsparql.specs.Check.{Refusal, refuse, noRefusal, refuseIf, Passes, orElse}
 use Rattle.tsparql.specs.Check.{recordLimit, rises, recordRefusal, recordsRefusal, tableRefusal}
-use Rattle.tsparql.proofs.ListLaws.{and-left, and-right, every-of, every-concatMap}
+use Rattle.tsparql.proofs.ListLaws.{and-left, and-right, and-both, and-three, test-eq, every-of, every-concatMap}
+use Rattle.tsparql.proofs.SumLaws.{distinct-cong, distinct-map}
 use Rattle.tsparql.proofs.RefusalLaws.{orElse-cases, orElse-passes, refuseIf-passes, refuseIf-cases}
 
 -- ---- records
@@ -190,26 +192,29 @@ keyAt-below : (t : List ℕ) (i : ℕ) → RecordChecked t (suc i) → keyAt t i
 unfolding factOf
 keyAt-below t i c = key-below (factOf (recordAt t i)) (factOf (recordAt t (suc i))) (omega arith) (omega arith) (c .rising)
 
--- nor has it a lesser subject
-subject-step : (t : List ℕ) (i : ℕ) → RecordChecked t (suc i) → factOf (recordAt t i) .subject ≤ factOf (recordAt t (suc i)) .subject
+-- and above every one before
+keys-rise : (t : List ℕ) → TableChecked t → (j k : ℕ) → j < k → k < length t / recordLength → keyAt t j < keyAt t k
+keys-rise t c j zero h l = absurd (omega arith)
+keys-rise t c j (suc k) h l = go (ltb j k) refl (λ m. keys-rise t c j k m (omega arith)) (keyAt-below t k (c .records (suc k) l))
+  where
+    go : (b : Bool) → ltb j k ≡ b → (j < k → keyAt t j < keyAt t k) → keyAt t k < keyAt t (suc k) → keyAt t j < keyAt t (suc k)
+    go true e again step = omega (arith, again (ltb-true j k e), step)
+    go false e again step = let same : j ≡ k = omega (arith, ltb-false j k e) in rw same step
+
+-- of two triples the lesser has no greater subject
+subject-≤ : (t : List ℕ) (j k : ℕ) → keyAt t j < keyAt t k → factOf (recordAt t j) .subject ≤ factOf (recordAt t k) .subject
 unfolding factOf
-subject-step t i c = let l = keyAt-below t i c in omega arith
+subject-≤ t j k l = omega arith
 
 -- the subjects of a table that passed the check do not fall
 pub subjects-rise : (t : List ℕ) → TableChecked t → (j k : ℕ) → j ≤ k → k < length t / recordLength
     → factOf (recordAt t j) .subject ≤ factOf (recordAt t k) .subject
-subjects-rise t c j zero h l = let same : j ≡ 0 = omega arith in rw same (le-refl (factOf (recordAt t 0) .subject))
-subjects-rise t c j (suc k) h l = go (ltb j (suc k)) refl (λ m. subjects-rise t c j k m (omega arith))
+subjects-rise t c j k h l = go (ltb j k) refl
   where
-    go : (b : Bool) → ltb j (suc k) ≡ b → (j ≤ k → factOf (recordAt t j) .subject ≤ factOf (recordAt t k) .subject)
-        → factOf (recordAt t j) .subject ≤ factOf (recordAt t (suc k)) .subject
-    go true e again =
-        let before = again (omega (arith, ltb-true j (suc k) e)) in
-        let step = subject-step t k (c .records (suc k) l) in
-        omega arith
-    go false e again =
-        let same : j ≡ suc k = omega (arith, ltb-false j (suc k) e) in
-        rw same (le-refl (factOf (recordAt t (suc k)) .subject))
+    go : (b : Bool) → ltb j k ≡ b → factOf (recordAt t j) .subject ≤ factOf (recordAt t k) .subject
+    go true e = subject-≤ t j k (keys-rise t c j k (ltb-true j k e) l)
+    go false e =
+        let same : j ≡ k = omega (arith, ltb-false j k e) in rw same (le-refl (factOf (recordAt t k) .subject))
 
 -- the facts of n records from record i on
 abbrev factsFrom : View → List ℕ → ℕ → ℕ → List Fact
@@ -237,3 +242,52 @@ pub factsIn-rising : (t : List ℕ) → Passes (tableRefusal t) → Rising key (
 unfolding factsIn
 factsIn-rising t z =
     factsFrom-rising (wholeTable t) t 0 (length t / recordLength) (λ j m. table-checked t z .records j (omega arith))
+
+-- ---- one triple
+
+pub sameTriple-self : (f : Fact) → sameTriple f f ≡ true
+sameTriple-self f =
+    and-both (and-both (eq-eqb (f .subject) (f .subject) refl) (eq-eqb (f .predicate) (f .predicate) refl))
+    (eq-eqb (f .object) (f .object) refl)
+
+pub sameTriple-turned : (f g : Fact) → sameTriple f g ≡ true → sameTriple g f ≡ true
+sameTriple-turned f g e =
+    let same = and-three (eqb (f .subject) (g .subject)) (eqb (f .predicate) (g .predicate)) (eqb (f .object) (g .object)) e in
+    and-both (and-both (turn (f .subject) (g .subject) (same .0)) (turn (f .predicate) (g .predicate) (same .1)))
+    (turn (f .object) (g .object) (same .2))
+  where
+    turn : (a b : ℕ) → eqb a b ≡ true → eqb b a ≡ true
+    turn a b d = eq-eqb b a (sym (eqb-true a b d))
+
+-- one triple has one number
+pub sameTriple-key : (f g : Fact) → sameTriple f g ≡ true → key f ≡ key g
+sameTriple-key f g e =
+    let same = and-three (eqb (f .subject) (g .subject)) (eqb (f .predicate) (g .predicate)) (eqb (f .object) (g .object)) e in
+    omega (
+      arith,
+      eqb-true (f .subject) (g .subject) (same .0),
+      eqb-true (f .predicate) (g .predicate) (same .1),
+      eqb-true (f .object) (g .object) (same .2),
+    )
+
+-- two records of a table that passed the check have one triple exactly where they are one record
+pub sameTriple-numbers : (t : List ℕ) → TableChecked t → (i j : ℕ) → i < length t / recordLength → j < length t / recordLength
+    → sameTriple (factOf (recordAt t i)) (factOf (recordAt t j)) ≡ eqb i j
+sameTriple-numbers t c i j h k =
+    test-eq (sameTriple (factOf (recordAt t i)) (factOf (recordAt t j))) (eqb i j)
+    (λ e. eq-eqb i j (go (ltb i j) refl (ltb j i) refl (sameTriple-key (factOf (recordAt t i)) (factOf (recordAt t j)) e)))
+    (λ e. rw (eqb-true i j e) (sameTriple-self (factOf (recordAt t j))))
+  where
+    go : (a : Bool) → ltb i j ≡ a → (b : Bool) → ltb j i ≡ b → keyAt t i ≡ keyAt t j → i ≡ j
+    go true d b e same = absurd (omega (arith, keys-rise t c i j (ltb-true i j d) k, same))
+    go false d true e same = absurd (omega (arith, keys-rise t c j i (ltb-true j i e) h, same))
+    go false d false e same = omega (arith, ltb-false i j d, ltb-false j i e)
+
+-- so distinct triples of such a table are distinct record numbers
+pub distinct-numbers : (t : List ℕ) → Passes (tableRefusal t) → (is : List ℕ) → Every (λ i. i < length t / recordLength) is
+    → distinctRecords (map (λ i. factOf (recordAt t i)) is) ≡ map (λ i. factOf (recordAt t i)) (distinctBy eqb is)
+distinct-numbers t z is e =
+    distinct-map sameTriple (λ i. factOf (recordAt t i)) is
+    ∙ ap (map (λ i. factOf (recordAt t i)))
+    (distinct-cong (λ i j. sameTriple (factOf (recordAt t i)) (factOf (recordAt t j))) eqb (λ i. i < length t / recordLength)
+    (sameTriple-numbers t (table-checked t z)) is e)

@@ -14,7 +14,7 @@ use lib.Seq.{take-at, drop-at}
 use Rattle.tsparql.specs.Lists.{keepIf, sumOver, concatMap}
 use Rattle.tsparql.specs.Values.{Cell, Row, sameCell}
 use Rattle.tsparql.specs.Table.{Fact, View, wholeTable, factsIn}
-use Rattle.tsparql.specs.PatternSets.{SoundAggregate, Aggregate, least, setRows, rowsOver}
+use Rattle.tsparql.specs.PatternSets.{SoundAggregate, Aggregate, Aggregation, aggregate, setRows, rowsOver}
 use Rattle.tsparql.specs.Push.{noBound}
 use Rattle.tsparql.specs.Reading.{queryNode}
 use Rattle.tsparql.specs.Check.{Refusal, refuse, noRefusal, Passes, passes, check}
@@ -297,19 +297,19 @@ totals-beside g v t s u ws ws′ out same =
     rows : Passes (evaluateOver g v t s ws .refusal) → evaluateOver g v t s ws .rows ≡ length rs
     rows p = ap (λ e. e .rows) (evaluate-answered g v t s ws p .answer-is)
 
--- of the calls, with any two tallies
-pub totals-evaluate : (t s : List ℕ) (u : ℕ) (ws ws′ out : List ℕ) (a b : Tally) → length ws ≡ length ws′
-    → TotalsBeside t s u (rowsOver least (factsIn (wholeTable t) t) (queryNode s)) ws out
-    (totalsCall t s u ws out a .totals) (evaluate b t s ws′ .evaluated)
-totals-evaluate t s u ws ws′ out a b same = totals-beside least (wholeTable t) t s u ws ws′ out same
+-- of the calls, with one choice and any two tallies
+pub totals-evaluate : (t s : List ℕ) (g : Aggregation) (u : ℕ) (ws ws′ out : List ℕ) (a b : Tally) → length ws ≡ length ws′
+    → TotalsBeside t s u (rowsOver (aggregate g) (factsIn (wholeTable t) t) (queryNode s)) ws out
+    (totalsCall t s g u ws out a .totals) (evaluate t s g ws′ b .evaluated)
+totals-evaluate t s g u ws ws′ out a b same = totals-beside (aggregate g) (wholeTable t) t s u ws ws′ out same
 
 -- the tally is raised once: as answered where nothing is refused, as refused on any refusal
-pub totals-tally : (t s : List ℕ) (u : ℕ) (ws out : List ℕ) (a : Tally)
-    → let x = totalsCall t s u ws out a in
+pub totals-tally : (t s : List ℕ) (g : Aggregation) (u : ℕ) (ws out : List ℕ) (a : Tally)
+    → let x = totalsCall t s g u ws out a in
     (Passes (x .totals .refusal) → x .tally ≡ raiseOne true a) × ((Passes (x .totals .refusal) → ⊥) → x .tally ≡ raiseOne false a)
 unfolding tallied
-totals-tally t s u ws out a =
-    let r = totalsOver least (wholeTable t) t s u ws out .refusal in
+totals-tally t s g u ws out a =
+    let r = totalsOver (aggregate g) (wholeTable t) t s u ws out .refusal in
     (λ z. rw (eq-eqb (r .number) 0 z), λ z. rw (ne-eqb (r .number) 0 z))
 
 -- ---- of a rewriting
@@ -375,10 +375,10 @@ pub record TotalsFit (words room : ℕ) (x : Totals) : Type 0 where
   pub space-kept : length (x .rowSpace) ≡ words
   pub output-kept : length (x .output) ≡ room
 
-pub totals-fit : (t s : List ℕ) (u : ℕ) (ws out : List ℕ) (a : Tally)
-    → TotalsFit (length ws) (length out) (totalsCall t s u ws out a .totals)
-totals-fit t s u ws out a =
-    totals-cases least v t s u ws out (TotalsFit (length ws) (length out))
+pub totals-fit : (t s : List ℕ) (g : Aggregation) (u : ℕ) (ws out : List ℕ) (a : Tally)
+    → TotalsFit (length ws) (length out) (totalsCall t s g u ws out a .totals)
+totals-fit t s g u ws out a =
+    totals-cases (aggregate g) v t s u ws out (TotalsFit (length ws) (length out))
     (λ h. none (check t s) ws refl (omega (arith, check-fits t s)) (omega (arith, check-fits t s)))
     (λ z l. none (refuse 10 0) ws refl (omega arith) (omega arith))
     (λ z l p. none (e .refusal) (e .rowSpace) long (omega (arith, fits)) (omega (arith, fits)))
@@ -395,24 +395,24 @@ totals-fit t s u ws out a =
     v = wholeTable t
 
     e : Evaluated
-    e = evaluateOver least v t s ws
+    e = evaluateOver (aggregate g) v t s ws
 
     rs : List Row
-    rs = rowsOver least (factsIn v t) (queryNode s)
+    rs = rowsOver (aggregate g) (factsIn v t) (queryNode s)
 
     es : List ℕ
     es = totalsWords u rs
 
     long : length (e .rowSpace) ≡ length ws
-    long = length-space least v t s ws
+    long = length-space (aggregate g) v t s ws
 
     fits : (e .refusal .number ≤ 8) × (e .refusal .place ≤ 65534)
-    fits = evaluate-refusal-fits least v t s ws
+    fits = evaluate-refusal-fits (aggregate g) v t s ws
 
     most : Passes (e .refusal) → length es ≤ 196605
     most p =
-        let rows : e .rows ≡ length rs = ap (λ x. x .rows) (evaluate-answered least v t s ws p .answer-is) in
-        omega (arith, rows, rows-peak-≤ least v t s ws p, totals-size-≤ u rs)
+        let rows : e .rows ≡ length rs = ap (λ x. x .rows) (evaluate-answered (aggregate g) v t s ws p .answer-is) in
+        omega (arith, rows, rows-peak-≤ (aggregate g) v t s ws p, totals-size-≤ u rs)
 
     none : (r : Refusal) (space : List ℕ) → length space ≡ length ws → r .number ≤ 10 → r .place ≤ 196605
         → TotalsFit (length ws) (length out) (totalsRefused r space out)

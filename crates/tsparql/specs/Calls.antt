@@ -4,17 +4,17 @@ use mathlib.Core.Bool.{Bool, true, false, cond}
 use mathlib.Core.List.{List}
 use Prim.Native.Nat.{ℕ, _+_, min}
 use Rattle.tsparql.specs.Table.{View, wholeTable, factsIn}
-use Rattle.tsparql.specs.PatternSets.{least}
+use Rattle.tsparql.specs.PatternSets.{Aggregation, aggregate}
 use Rattle.tsparql.specs.Ceiling.{greatest32, productFigure, ceilingOf}
 use Rattle.tsparql.specs.Reading.{queryNode}
 use Rattle.tsparql.specs.Check.{Refusal, noRefusal, passes, check}
 use Rattle.tsparql.specs.Evaluate.{Evaluated, evaluateOver}
 
--- ---- evaluation of a whole table by least trust
+-- ---- evaluation of a whole table by the aggregate that the caller chooses
 
 -- without a tally
-abbrev pub evaluateUntallied : List ℕ → List ℕ → List ℕ → Evaluated
-evaluateUntallied t s ws = evaluateOver least (wholeTable t) t s ws
+abbrev pub evaluateUntallied : List ℕ → List ℕ → Aggregation → List ℕ → Evaluated
+evaluateUntallied t s g ws = evaluateOver (aggregate g) (wholeTable t) t s ws
 
 -- how many calls were answered, and how many refused
 pub record Tally : Type 0 where
@@ -38,10 +38,10 @@ pub record EvaluateAnswer : Type 0 where
   pub evaluated : Evaluated
   pub tally : Tally
 
--- the call
-abbrev pub evaluate : Tally → List ℕ → List ℕ → List ℕ → EvaluateAnswer
-evaluate a t s ws =
-    record { evaluated = evaluateUntallied t s ws; tally = tallied a (evaluateUntallied t s ws .refusal) }
+-- the call: table, query, choice, row space, tally
+abbrev pub evaluate : List ℕ → List ℕ → Aggregation → List ℕ → Tally → EvaluateAnswer
+evaluate t s g ws a =
+    record { evaluated = evaluateUntallied t s g ws; tally = tallied a (evaluateUntallied t s g ws .refusal) }
 
 -- ---- ceiling
 

@@ -10,7 +10,7 @@ use lib.ListN.{length, replicate}
 use Rattle.tsparql.specs.Lists.{onlyIf, concatMap}
 use Rattle.tsparql.specs.Values.{Trust, known, unknown, Cell, free, term, trusted, Row, variables, cellAt, isFree}
 use Rattle.tsparql.specs.Table.{wholeTable, factsIn}
-use Rattle.tsparql.specs.PatternSets.{least, rowsOver}
+use Rattle.tsparql.specs.PatternSets.{byLeast, aggregate, rowsOver}
 use Rattle.tsparql.specs.Reading.{queryNode}
 use Rattle.tsparql.specs.Check.{Refusal, refuse, passes}
 use Rattle.tsparql.specs.Evaluate.{rowLength, Evaluated}
@@ -78,9 +78,9 @@ factsLimit = 65529
 abbrev pub programRows : ℕ
 programRows = 963
 
--- a longer facts file first of all; then the evaluation
+-- a longer facts file first of all; then the evaluation by least trust
 unfoldable pub strikes : List ℕ → List ℕ → List ℕ
 strikes facts query =
     cond (ltb factsLimit (length facts)) (refusedLine (refuse 2 0))
-    (report (evaluateUntallied facts query (replicate (rowLength * programRows) 0))
-    (rowsOver least (factsIn (wholeTable facts) facts) (queryNode query)))
+    (report (evaluateUntallied facts query byLeast (replicate (rowLength * programRows) 0))
+    (rowsOver (aggregate byLeast) (factsIn (wholeTable facts) facts) (queryNode query)))

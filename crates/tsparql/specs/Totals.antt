@@ -9,7 +9,7 @@ use lib.ListN.{length, take, drop, getD}
 use Rattle.tsparql.specs.Lists.{keepIf, distinctBy, concatMap}
 use Rattle.tsparql.specs.Values.{Trust, known, Cell, Row, cellAt, lesser, sameCell}
 use Rattle.tsparql.specs.Table.{View, wholeTable, factsIn}
-use Rattle.tsparql.specs.PatternSets.{Aggregate, least, rowsOver}
+use Rattle.tsparql.specs.PatternSets.{Aggregate, Aggregation, aggregate, rowsOver}
 use Rattle.tsparql.specs.Reading.{queryNode}
 use Rattle.tsparql.specs.Check.{Refusal, refuse, noRefusal, refuseIf, Passes, passes, orElse, check}
 use Rattle.tsparql.specs.Evaluate.{cellWord, trustWord, Evaluated, evaluateUnless}
@@ -102,19 +102,19 @@ unfoldable pub totalsOver : Aggregate → View → List ℕ → List ℕ → ℕ
 totalsOver g v t s u ws out =
     totalsAfter (evaluateUnless (variableRefusal u) g v t s ws) (totalsWords u (rowsOver g (factsIn v t) (queryNode s))) out
 
--- of a whole table by least trust
-abbrev pub totalsUntallied : List ℕ → List ℕ → ℕ → List ℕ → List ℕ → Totals
-totalsUntallied t s u ws out = totalsOver least (wholeTable t) t s u ws out
+-- of a whole table by the aggregate that the caller chooses
+abbrev pub totalsUntallied : List ℕ → List ℕ → Aggregation → ℕ → List ℕ → List ℕ → Totals
+totalsUntallied t s g u ws out = totalsOver (aggregate g) (wholeTable t) t s u ws out
 
 -- the totals, and the tally that they give back
 pub record TotalsAnswer : Type 0 where
   pub totals : Totals
   pub tally : Tally
 
--- the call: table, query, variable, row space, output, tally
-abbrev pub totalsCall : List ℕ → List ℕ → ℕ → List ℕ → List ℕ → Tally → TotalsAnswer
-totalsCall t s u ws out a =
-    record { totals = totalsUntallied t s u ws out; tally = tallied a (totalsUntallied t s u ws out .refusal) }
+-- the call: table, query, choice, variable, row space, output, tally
+abbrev pub totalsCall : List ℕ → List ℕ → Aggregation → ℕ → List ℕ → List ℕ → Tally → TotalsAnswer
+totalsCall t s g u ws out a =
+    record { totals = totalsUntallied t s g u ws out; tally = tallied a (totalsUntallied t s g u ws out .refusal) }
 
 -- ---- what must hold of it
 

@@ -7,6 +7,7 @@ use lib.ListN.{length}
 use Rattle.tsparql.specs.Table.{factsIn}
 use Rattle.query.specs.Found.{nodeOf}
 use Rattle.patterns.specs.Matching.{viewOf}
+use Rattle.patterns.specs.Sets.{aggregateOf}
 use Rattle.evaluation.specs.declared.QueryRows.{QueryRows}
 use Rattle.evaluation.specs.Evaluations.{Answers}
 use Rattle.randwyler.specs.Answers.{tallyIn}
@@ -23,11 +24,11 @@ out-at c = c .answer .last .1 .1 .1 .0
 
 answers-at : (c : tie.After-answer) {r : QueryRows} → c .answer .result ≡ r
     → let a = start-of c .args in
-    Answers (factsIn (viewOf (a .view)) (a .table .now)) (nodeOf (a .query .now)) (length (a .space .now)) (out-at c) r
+    Answers (aggregateOf (a .g)) (factsIn (viewOf (a .view)) (a .table .now)) (nodeOf (a .query .now)) (length (a .space .now)) (out-at c) r
 answers-at c e =
     let a = start-of c .args in
     let facts = factsIn (viewOf (a .view)) (a .table .now) in
-    subst (λ r. Answers facts (nodeOf (a .query .now)) (length (a .space .now)) (out-at c) r) e (c .answer .ensures)
+    subst (λ r. Answers (aggregateOf (a .g)) facts (nodeOf (a .query .now)) (length (a .space .now)) (out-at c) r) e (c .answer .ensures)
 
 answer-requires : tie.Need-answer-requires
 answer-requires c κs =
@@ -56,8 +57,8 @@ returns c =
     let x = c .before .before .before .before .before .before in
     let a = start-of x .args in
     c .evaluation-refused .ensures (out-at x)
-    ∙ counted (viewOf (a .view)) (a .table .now) (a .query .now) (tallyIn (a .tally)) (a .space .now) (out-at x) _ (start-of x .pre)
-    (answers-at x (c .before .before .number .given .1))
+    ∙ counted (aggregateOf (a .g)) (viewOf (a .view)) (a .table .now) (a .query .now) (tallyIn (a .tally)) (a .space .now) (out-at x) _
+    (start-of x .pre) (answers-at x (c .before .before .number .given .1))
 
 same-length-2 : tie.Need-same-length-2
 same-length-2 c = search needs
@@ -67,8 +68,8 @@ returns-2 c =
     let x = c .before .before .before .before .before .before in
     let a = start-of x .args in
     rw (c .with-answered .ensures)
-    (counted (viewOf (a .view)) (a .table .now) (a .query .now) (tallyIn (a .tally)) (a .space .now) (out-at x) _ (start-of x .pre)
-    (answers-at x (c .before .before .rows .given .1)))
+    (counted (aggregateOf (a .g)) (viewOf (a .view)) (a .table .now) (a .query .now) (tallyIn (a .tally)) (a .space .now) (out-at x) _
+    (start-of x .pre) (answers-at x (c .before .before .rows .given .1)))
 
 pub evaluate-checked-spec : {M : Type 1} → statement M
 evaluate-checked-spec =

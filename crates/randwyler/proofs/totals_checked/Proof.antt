@@ -6,11 +6,12 @@ use native.Mathlib.Omega.{arith}
 use lib.ListN.{length}
 use Rattle.tsparql.specs.Lists.{Every}
 use Rattle.tsparql.specs.Table.{Fact, factsIn}
-use Rattle.tsparql.specs.PatternSets.{least, rowsOver}
+use Rattle.tsparql.specs.PatternSets.{Aggregate, rowsOver}
 use Rattle.tsparql.specs.Reading.{queryNode}
 use Rattle.query.specs.Found.{nodeOf}
 use Rattle.rows.specs.RowWords.{RowFormed}
 use Rattle.patterns.specs.Matching.{viewOf}
+use Rattle.patterns.specs.Sets.{aggregationOf, aggregateOf}
 use Rattle.evaluation.specs.declared.QueryRows.{QueryRows}
 use Rattle.evaluation.specs.Evaluations.{Answers}
 use Rattle.randwyler.specs.Answers.{tallyIn}
@@ -31,19 +32,24 @@ out-at c = c .answer .last .1 .1 .1 .0
 abbrev facts-of : tie.After-answer → List Fact
 facts-of c = factsIn (viewOf (start-of c .args .view)) (start-of c .args .table .now)
 
+-- the aggregate
+abbrev g-of : tie.After-answer → Aggregate
+g-of c = aggregateOf (start-of c .args .g)
+
 answers-at : (c : tie.After-answer) {r : QueryRows} → c .answer .result ≡ r
     → let a = start-of c .args in
-    Answers (facts-of c) (queryNode (a .query .now)) (length (a .space .now)) (out-at c) r
+    Answers (g-of c) (facts-of c) (queryNode (a .query .now)) (length (a .space .now)) (out-at c) r
 answers-at c {r} e =
     let a = start-of c .args in
-    ready-answers (viewOf (a .view)) (a .table .now) (a .query .now) (start-of c .pre .0)
-    (subst (λ (q : QueryRows). Answers (facts-of c) (nodeOf (a .query .now)) (length (a .space .now)) (out-at c) q) e (c .answer .ensures))
+    ready-answers (aggregationOf (a .g)) (viewOf (a .view)) (a .table .now) (a .query .now) (start-of c .pre .0)
+    (subst (λ (q : QueryRows). Answers (g-of c) (facts-of c) (nodeOf (a .query .now)) (length (a .space .now)) (out-at c) q) e
+    (c .answer .ensures))
 
-formed-at : (c : tie.After-answer) → Every RowFormed (rowsOver least (facts-of c) (queryNode (start-of c .args .query .now)))
+formed-at : (c : tie.After-answer) → Every RowFormed (rowsOver (g-of c) (facts-of c) (queryNode (start-of c .args .query .now)))
 formed-at c =
     let a = start-of c .args in
     let bytes = c .before .before .before .before .before .shared-slice-known .given in
-    ready-formed (viewOf (a .view)) (a .table .now) (a .query .now) (start-of c .pre .0) (λ i. bytes i .fits)
+    ready-formed (aggregationOf (a .g)) (viewOf (a .view)) (a .table .now) (a .query .now) (start-of c .pre .0) (λ i. bytes i .fits)
 
 answer-requires : tie.Need-answer-requires
 answer-requires c κs =
@@ -99,8 +105,8 @@ returns-2 c =
     let x = c .before .before .before .before .before .before in
     let a = start-of x .args in
     c .totals-refused .ensures (out-at x) (a .output .now)
-    ∙ totals-refused (facts-of x) (queryNode (a .query .now)) (a .variable) (length (a .space .now)) (tallyIn (a .tally)) (out-at x)
-    (a .output .now) (answers-at x (c .before .before .a .given .1))
+    ∙ totals-refused (g-of x) (facts-of x) (queryNode (a .query .now)) (a .variable) (length (a .space .now)) (tallyIn (a .tally))
+    (out-at x) (a .output .now) (answers-at x (c .before .before .a .given .1))
 
 same-length-4 : tie.Need-same-length-4
 same-length-4 c = search needs
