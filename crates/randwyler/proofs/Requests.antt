@@ -1,7 +1,8 @@
 -- What the requests of document 02 ask, on the calls: whatever they answer, by their promises alone. Request 1: totals beside an
 -- evaluation (`totals-calls`), their tally (`totals-tally-calls`), and of a rewriting (`totals-rewritten-calls`). Request 2: a query that
 -- names its subjects, over tables with other records behind these (`replaced-calls`, `replaced-ceiling-calls`). Request 3: the rows in the
--- row space (`rows-calls`), and how often one stands there (`sparql11-calls`, `published-calls`). Assumes nothing.
+-- row space (`rows-calls`), and how often one stands there (`sparql11-calls`, `published-calls`). Request 4: all these by either choice; a
+-- query beside its rewriting, and the ceiling, in Demand3. Assumes nothing.
 use mathlib.Core.Path.{_≡_, sym, ap, ap₂, subst, _∙_}
 use mathlib.Core.Bool.{true, false}
 use mathlib.Core.List.{List}

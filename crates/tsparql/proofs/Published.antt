@@ -100,7 +100,7 @@ reaches-same (known a) unknown h = absurd (omega (arith, leb-false 0 a (h 0)))
 reaches-same unknown (known b) h = absurd (omega (arith, leb-false 0 b (sym (h 0))))
 reaches-same unknown unknown h = refl
 
--- the same records have one least trust, whatever else they are
+-- the same records have one least trust, also where they are no graph
 pub least-same : (us vs : List Fact) → SameRecords us vs → least us ≡ least vs
 least-same us vs same =
     reaches-same (least us) (least vs)

@@ -15,7 +15,7 @@ pub record Fact : Type 0 where
   pub object : ℕ
   pub trust : Trust
 
--- they have one triple
+-- two facts have one triple
 abbrev pub sameTriple : Fact → Fact → Bool
 sameTriple f g = eqb (f .subject) (g .subject) && eqb (f .predicate) (g .predicate) && eqb (f .object) (g .object)
 
