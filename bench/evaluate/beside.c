@@ -128,7 +128,7 @@ static uint32_t most_rows(const struct store *s, enum contender c, const struct 
 /* Prints what a call answers, and the times of the contenders up to the last one. */
 static void time_call(call *answer, enum contender last, const struct store *s, const struct query *q)
 {
-    double best[CONTENDERS] = {INFINITY, INFINITY, INFINITY}, start = clock_now();
+    double best[] = {[OURS] = INFINITY, [OTHER] = INFINITY, [OURS_MEAN] = INFINITY}, start = clock_now();
     for (int round = 0; round < LEAST_ROUNDS || (round < MOST_ROUNDS && clock_now() - start < QUESTION_TIME); round++) {
         for (enum contender c = OURS; c <= last; c++) {
             double before = clock_now();

@@ -260,7 +260,7 @@ impl Case<'_> {
     fn other_by_least(&self, by_mean: &Evaluation) -> bool {
         let inputs = (self.inputs.0, self.inputs.1, Choice::Least);
         let by_least = || rows::evaluate_within(inputs, MOST_SPACE, MOST_STEPS, &mut Seen::default());
-        self.seen.means.not_least()
+        self.seen.means.not_least() > 0
             && matches!(by_least(), Some(Outcome::Rows(by_least)) if by_least.rows.len() != by_mean.rows.len())
     }
 }
@@ -303,7 +303,7 @@ impl Met {
                 2_500,
                 *alike && seen.error_ensured(),
             ),
-            ("rows, and a mean that is not the least", 5_000, !rows.is_empty() && seen.means.not_least()),
+            ("rows, and a mean that is not the least", 5_000, !rows.is_empty() && seen.means.not_least() > 0),
             ("another number of rows than by the least", 500, other_by_least),
             ("another number of rows than by the least, and a rewriting alike", 400, *alike && other_by_least),
         ]);
@@ -381,7 +381,7 @@ fn pattern_sets(report: &mut Report) {
         };
         let words = random.pick(&spaces::lengths(&outcome)[..2]);
         spaces.test(report, &format!("pattern set {number}"), inputs, &outcome, words);
-        if matches!(&outcome, Outcome::Rows(evaluation) if !evaluation.rows.is_empty()) {
+        if outcome.has_rows() {
             with_rows[usize::from(query[0])] += 1;
             seen.add(&here);
         }
@@ -455,6 +455,8 @@ fn by_hand(report: &mut Report) {
     known_means::sets(report);
     known_means::patterns(report);
     known_means::sums(report);
+    known_means::remainders(report);
+    known_means::places(report);
     known_means::far_apart(report);
     known_means::bounds(report);
     known_means::other_nodes(report);

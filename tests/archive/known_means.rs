@@ -141,9 +141,19 @@ pub fn patterns(report: &mut Report) {
     ] {
         test(&mut store, what, &set(patterns), rows, [peak, 0]);
     }
+    // Known means behind unknown ones, among rows of one set.
+    store.table = table("? 300 900");
+    let rows = |trusts: [&str; 9]| -> Vec<String> {
+        let row = |(i, trust): (usize, &str)| format!("{trust} ?2={} ?3={}", 1 + i / 3, 1 + i % 3);
+        trusts.into_iter().enumerate().map(row).collect()
+    };
+    let by_mean = rows(["?", "?", "?", "?", "300", "600", "?", "600", "900"]);
+    let by_least = rows(["?", "?", "?", "?", "300", "300", "?", "300", "900"]);
+    let [by_mean, by_least] = [&by_mean, &by_least].map(|rows| rows.iter().map(String::as_str).collect::<Vec<_>>());
+    test(&mut store, "unknown, then known", &set("8 ?2 9, 8 ?3 9"), [&by_mean, &by_least], [9, 0]);
 }
 
-/// Sums of some trusts, and the means, from one remainder to the next and about 0.
+/// Sums of some trusts and their means, about 0: on both sides of each place where the mean changes.
 const SUMS: [(usize, &[(i32, i32)]); 4] = [
     (2, &[(-5, -3), (-4, -2), (-3, -2), (-2, -1), (-1, -1), (0, 0), (1, 0), (2, 1), (3, 1), (4, 2), (5, 2)]),
     (
@@ -225,6 +235,39 @@ pub fn sums(report: &mut Report) {
             let by_choice = [mean.to_string(), rest.to_string()];
             let what = format!("the sum {sum} of {count}");
             test_set(&mut store, &what, &trusts, &records.join(" "), by_choice.each_ref().map(String::as_str));
+        }
+    }
+}
+
+/// Every number of records and every remainder: so many records of a mean, and the others a thousandth above it, the first with 400 more
+/// and the last with 400 less. The sum is the number of records times the mean, and the remainder.
+pub fn remainders(report: &mut Report) {
+    let mut store = Store::new(vec![], Choice::Mean, report);
+    for count in 2..=15 {
+        let records: Vec<String> = (1..=count).map(|record| record.to_string()).collect();
+        for (rest, mean) in (0..count).flat_map(|rest| [-600, -1, 0, 599].map(|mean| (rest, mean))) {
+            let mut trusts: Vec<i32> = (0..count).map(|place| mean + i32::from(place < rest)).collect();
+            trusts[0] += 400;
+            trusts[count - 1] -= 400;
+            let trusts: Vec<String> = trusts.iter().map(i32::to_string).collect();
+            let by_choice = [mean, mean - 400].map(|trust| trust.to_string());
+            let what = format!("{count} records, remainder {rest}, mean {mean}");
+            test_set(&mut store, &what, &trusts.join(" "), &records.join(" "), by_choice.each_ref().map(String::as_str));
+        }
+    }
+}
+
+/// Fourteen records of the trusts 1, 4, 9 and so on, and one of them once more, behind the others and before them. Their sum is 1015, and
+/// 72 the mean: 14 * 72 = 1008. If the record counted twice the sum would be between 15 * 72 = 1080 and 15 * 73 = 1095 only with a square
+/// from 65 to 79, and there is none.
+pub fn places(report: &mut Report) {
+    let trusts: Vec<String> = (1..=14).map(|i| (i * i).to_string()).collect();
+    let all: Vec<String> = (1..=14).map(|record: u32| record.to_string()).collect();
+    let (trusts, all) = (trusts.join(" "), all.join(" "));
+    let mut store = Store::new(vec![], Choice::Mean, report);
+    for record in 1..=14 {
+        for (what, records) in [("behind", format!("{all} {record}")), ("before", format!("{record} {all}"))] {
+            test_set(&mut store, &format!("record {record} {what} all"), &trusts, &records, ["72", "1"]);
         }
     }
 }
@@ -311,7 +354,8 @@ pub fn other_nodes(report: &mut Report) {
         }
     }
     for (what, text, rows, counts) in [
-        ("a join in a join", "10 10 {600} {500} {147}", [&["147"][..], &["-5"][..]], [3, 2]),
+        ("a join in a join, left", "10 10 {600} {500} {650}", [&["500"][..], &["300"][..]], [3, 2]),
+        ("a join in a join, right", "10 {600} 10 {650} {500}", [&["500"], &["300"]], [4, 2]),
         ("a left join with nothing", "20 70 {600} N", [&["600"], &["300"]], [2, 0]),
         ("a union", "30 {600} {500}", [&["600", "500"], &["300", "400"]], [2, 0]),
         ("a filter", "40 70 {-503}", [&["-503"], &["-1000"]], [1, 0]),

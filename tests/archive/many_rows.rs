@@ -553,7 +553,7 @@ pub fn random_cases(report: &mut Report) {
         report.case(count >= 50, || format!("only {count} random joins with keys {keys}"));
     }
     left_rows::enough(report, &seen, "random joins with many pairs", 1_000);
-    let not_least = seen.means.known[0];
+    let not_least = seen.means.not_least();
     println!("means in random joins with many pairs that are not the least: {not_least}");
     report.case(not_least >= 1_000, || "too few means in random joins with many pairs are not the least".to_string());
 }

@@ -74,9 +74,9 @@ impl SeenMeans {
         add_each(&mut self.unknown, other.unknown);
     }
 
-    /// Whether a mean was not the least.
-    pub fn not_least(&self) -> bool {
-        self.known[0] > 0
+    /// How many were not the least.
+    pub fn not_least(&self) -> u64 {
+        self.known[0]
     }
 
     /// Counts a case of the report for each sort; `cases` says what was counted.

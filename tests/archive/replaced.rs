@@ -61,7 +61,7 @@ impl Replaced {
         let outcomes = [evaluate(&table)?, evaluate(&replaced)?];
         let ceilings = [&table, &replaced].map(|table| ceilings::ceiling(table, &query));
         let by_terms = sets.iter().flat_map(|set| set.patterns).all(|[subject, ..]| matches!(subject, Slot::Term(_)));
-        let not_least = seen.means.not_least();
+        let not_least = seen.means.not_least() > 0;
         Some(Replaced { table, replaced, query, choice, greatest, first, outcomes, ceilings, by_terms, not_least })
     }
 
@@ -109,7 +109,7 @@ impl Replaced {
         let subject = |number: usize| triples[number][0];
         let before = self.first.checked_sub(1).map(subject);
         let (outcome, [one, other]) = (&self.outcomes[0], self.ceilings);
-        let (rows, too_short) = (subjects::has_rows(outcome), spaces::lengths(outcome)[0]);
+        let (rows, too_short) = (outcome.has_rows(), spaces::lengths(outcome)[0]);
         [
             ("rows", 10_000, rows),
             ("rows, and a mean that is not the least", 1_000, rows && self.not_least),
@@ -173,7 +173,7 @@ pub fn random_cases(report: &mut Report) {
         cases += 1;
         replaced.test(report, &mut spaces, &format!("records replaced, case {number}"));
         kinds.count(&replaced.kinds());
-        if subjects::has_rows(&replaced.outcomes[0]) {
+        if replaced.outcomes[0].has_rows() {
             kinds.count(&kinds_of_nodes(&subjects::tree(&replaced.query)));
         }
     }

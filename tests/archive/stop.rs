@@ -177,13 +177,13 @@ fn random_cases(report: &mut Report) {
         for words in [lengths[0], lengths[1], random.pick(&lengths[2..])] {
             spaces.test(report, &what, inputs, &outcome, words);
         }
-        if subjects::has_rows(&outcome) {
+        if outcome.has_rows() {
             seen.add(&here);
         }
         ceilings::test(report, &mut random, &what, (&table, &query), ceilings::ceiling(&table, &query));
         for set in subjects::sets(&subjects::tree(&query)) {
             if let Some(scans) = subjects::scans(&table, &query, &set) {
-                asked.count(&triples, set.patterns, &scans, subjects::has_rows(&outcome));
+                asked.count(&triples, set.patterns, &scans, outcome.has_rows());
             }
         }
     }

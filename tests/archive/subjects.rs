@@ -20,10 +20,6 @@ pub fn evaluate(inputs: Inputs, seen: &mut Seen) -> Option<Outcome> {
     rows::evaluate_within(inputs, MOST_SPACE, steps as u64, seen)
 }
 
-pub fn has_rows(outcome: &Outcome) -> bool {
-    matches!(outcome, Outcome::Rows(evaluation) if !evaluation.rows.is_empty())
-}
-
 // ---- Tables
 
 pub type Triple = [u32; 3];

@@ -60,14 +60,18 @@ fn main() {
             _ => inputs::narrow(&mut random, &mut [[0; KINDS]; KINDS]),
         };
         let inputs = (&table[..], &query[..], random.pick(&CHOICES));
-        let Some(outcome) = rows::evaluate_within(inputs, MOST_SPACE, MOST_STEPS, &mut seen) else { continue };
+        let mut here = Seen::default();
+        let Some(outcome) = rows::evaluate_within(inputs, MOST_SPACE, MOST_STEPS, &mut here) else { continue };
+        if outcome.has_rows() {
+            seen.add(&here);
+        }
         let lengths = spaces::lengths(&outcome);
         for words in [lengths[0], lengths[1], random.pick(&lengths[2..])] {
             spaces.test(&mut report, &format!("case {number}"), inputs, &outcome, words);
         }
     }
-    left_rows::enough(&mut report, &seen, "random cases", 1_000);
-    seen.means.enough(&mut report, "random cases", 500);
+    left_rows::enough(&mut report, &seen, "random cases with rows", 1_000);
+    seen.means.enough(&mut report, "random cases with rows", 500);
     // The right rows of large joins are chained here too.
     many_rows::one_bucket(&mut report);
     many_rows::set_in_some(&mut report);

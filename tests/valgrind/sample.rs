@@ -44,16 +44,19 @@ use queries::KINDS;
 use random::Random;
 use report::Report;
 use rows::{Outcome, Seen};
+use std::ops::RangeInclusive;
 
 const CASES: usize = 1_000;
 const MOST_SPACE: usize = 200;
-const MOST_STEPS: u64 = 1_000;
+const MOST_STEPS: u64 = 4_000;
+/// First bytes of sets of over 7 patterns.
+const LONG_SETS: RangeInclusive<u8> = 0x08..=0x0F;
 /// Bytes of the longest output behind the result.
 const BEHIND: usize = 8;
 const TALLY: Tally = Tally { answered: 4, refused: u32::MAX };
 
-/// All calls with one table and one query; counts what the evaluation saw.
-fn test(report: &mut Report, random: &mut Random, what: &str, inputs: Inputs, seen: &mut Seen) {
+/// All calls with one table and one query; counts what an evaluation with rows saw, and answers whether there are rows.
+fn test(report: &mut Report, random: &mut Random, what: &str, inputs: Inputs, seen: &mut Seen) -> bool {
     let (table, query, _) = inputs;
     report.check(what, table, query, paper::check(table, query), ffi::check(table, query));
     report.ceiling(what, table, query, ceilings::ceiling(table, query), ffi::ceiling(table, query));
@@ -70,7 +73,11 @@ fn test(report: &mut Report, random: &mut Random, what: &str, inputs: Inputs, se
             report.case(right, || format!("{what}: wrong bytes after rewrite {} {room}", report::hex(query)));
         }
     }
-    let Some(outcome) = rows::evaluate_within(inputs, MOST_SPACE, MOST_STEPS, seen) else { return };
+    let mut here = Seen::default();
+    let Some(outcome) = rows::evaluate_within(inputs, MOST_SPACE, MOST_STEPS, &mut here) else { return false };
+    if outcome.has_rows() {
+        seen.add(&here);
+    }
     let lengths = spaces::lengths(&outcome);
     for words in [lengths[0], lengths[1], random.pick(&lengths)] {
         let (expected, after) = outcome.answer(words, TALLY);
@@ -82,6 +89,7 @@ fn test(report: &mut Report, random: &mut Random, what: &str, inputs: Inputs, se
         }
     }
     test_totals(report, random, what, inputs, &outcome);
+    outcome.has_rows()
 }
 
 /// Totals of a variable. An output with nothing written in it shows what an answer depends on, one with noise what is written.
@@ -105,22 +113,26 @@ fn test_totals(report: &mut Report, random: &mut Random, what: &str, inputs: Inp
 
 fn main() {
     let (mut report, mut random) = (Report::default(), Random::new(1));
-    let (mut errors, mut means) = (0, 0);
+    let (mut errors, mut means, mut long_sets) = (0, 0, 0);
     for number in 0..CASES {
         let (table, query) = match number % 8 {
             0 | 4 => inputs::unions(&mut random),
             1 => left_joins::inputs(&mut random),
+            2 | 6 => inputs::pattern_set(&mut random),
             _ => inputs::narrow(&mut random, &mut [[0; KINDS]; KINDS]),
         };
         // A boxed slice has no room behind its end.
         let (table, query) = (table.into_boxed_slice(), query.into_boxed_slice());
         let (inputs, mut seen) = ((&table[..], &query[..], random.pick(&CHOICES)), Seen::default());
-        test(&mut report, &mut random, &format!("case {number}"), inputs, &mut seen);
+        let has_rows = test(&mut report, &mut random, &format!("case {number}"), inputs, &mut seen);
+        long_sets += u64::from(has_rows && LONG_SETS.contains(&query[0]));
         errors += u64::from(seen.error_kept());
-        means += u64::from(seen.means.not_least());
+        means += u64::from(seen.means.not_least() > 0);
     }
     println!("cases with a left row kept on an error: {errors}; with a mean that is not the least: {means}");
+    println!("sets of over 7 patterns with rows: {long_sets}");
     report.case(errors >= 50, || format!("only {errors} cases with a left row kept on an error"));
     report.case(means >= 50, || format!("only {means} cases with a mean that is not the least"));
+    report.case(long_sets >= 5, || format!("only {long_sets} sets of over 7 patterns with rows"));
     std::process::exit(report.finish());
 }
