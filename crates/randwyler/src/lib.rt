@@ -326,8 +326,9 @@ fn totals_checked(
 }
 
 // For each different cell of a variable in the rows of an evaluation by the same choice, an entry of 3 words in a lent output: the cell,
-// how many rows have it, the least of their trusts. Refusals 1 to 7 and 10 for the variable, with the row space untouched; 8 with it all zero; and 10 for an output
-// that is too short, with the rows in it as in an answer. Behind the entries, and on a refusal, the output is as it was.
+// how many rows have it, the least of their trusts. Refusals 1 to 7 and 10 for the variable, with the row space untouched; 8 with it all
+// zero; and 10 for an output that is too short, with the rows in it as in an answer. Behind the entries, and on a refusal, the output is as
+// it was.
 #[no_mangle]
 pub extern "C" fn randwyler_totals_of(
     table: &[u8],
