@@ -212,7 +212,7 @@ fn greatest_spaces(report: &mut Report) {
 /// A set of two patterns on 255 and 257 records, each with each: it needs 65,535 rows by either choice.
 fn most_rows_of_two_patterns(report: &mut Report) {
     let mut spaces = Spaces::new(10);
-    let side = |predicate, count| (1..=count).map(move |object| ([1, predicate, object], many_rows::trust_of(object)));
+    let side = |predicate, count| (1..=count).map(move |object| ([1, predicate, object], tables::trust_of(object)));
     let table = tables::facts(&side(1, 255).chain(side(2, 257)).collect::<Vec<_>>());
     let query = vectors::query(&vectors::set("1 1 ?0, 1 2 ?1"));
     for choice in CHOICES {

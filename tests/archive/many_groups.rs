@@ -5,7 +5,7 @@ use crate::groups::Totals;
 use crate::outputs::Outputs;
 use crate::report::Report;
 use crate::rows::{self, Trust, MOST_ROWS, ROW_WORDS};
-use crate::tables;
+use crate::tables::{self, trust_of};
 use crate::vectors;
 
 const ROWS: u32 = MOST_ROWS as u32;
@@ -19,11 +19,6 @@ type Cell = fn(u32) -> u32;
 /// The records i 1 CELL for i from 1 to 65,535: ?0 rises, and ?1 has the cells in this order.
 pub fn table(cell: Cell, trust: fn(u32) -> Trust) -> Vec<u8> {
     tables::facts(&(1..=ROWS).map(|i| ([i, 1, cell(i)], trust(i))).collect::<Vec<_>>())
-}
-
-/// Trusts of which some are unknown; of the others each occurs.
-pub fn mixed(i: u32) -> Trust {
-    (i % 7 != 3).then_some((i * 37 % 2_001) as i32 - 1_000)
 }
 
 /// Cell k of those that come 16 to one of the engine's chains: the lowest 16 bits and 40,503 times the rest have one sum modulo 65,536.
@@ -91,17 +86,17 @@ impl Tester<'_> {
 pub fn all(report: &mut Report) {
     let mut tester = Tester { outputs: Outputs::new(31), report };
     for (what, cell, groups) in CELLS {
-        tester.test(what, (&table(cell, mixed), LINKS), 1, groups, None);
+        tester.test(what, (&table(cell, trust_of), LINKS), 1, groups, None);
     }
     for (what, trust, least) in TRUSTS {
         tester.test(what, (&table(|_| TERMS - 1, trust), LINKS), 1, 1, Some(least));
     }
-    let shuffled = table(|i| 1 + i * 40_503 % 65_537, mixed);
+    let shuffled = table(|i| 1 + i * 40_503 % 65_537, trust_of);
     tester.test("a variable that no row has", (&shuffled, LINKS), 14, 1, None);
     // Each known trust, and the unknown one.
     tester.test("trusts in cells", (&shuffled, &format!("5f {LINKS}")), 15, 2_002, None);
     // ?1 is free in the second third of the rows.
-    let thirds: Vec<_> = (1..=ROWS).map(|i| ([i, 1 + (i - 1) / 21_845, i * 16], mixed(i))).collect();
+    let thirds: Vec<_> = (1..=ROWS).map(|i| ([i, 1 + (i - 1) / 21_845, i * 16], trust_of(i))).collect();
     let query = format!("30 {LINKS} 30 01 100000 000002 100002 01 100000 000003 100001");
     tester.test("a large free group between others", (&tables::facts(&thirds), &query), 1, 2 * 21_845 + 1, None);
 }

@@ -10,7 +10,7 @@ use crate::random::Random;
 use crate::report::Report;
 use crate::rows::{self, Evaluation, Outcome, Row, Seen, Trust, Value, MOST_ROWS};
 use crate::spaces::{self, Spaces};
-use crate::tables;
+use crate::tables::{self, trust_of};
 use crate::vectors::{self, set};
 use std::collections::{BTreeSet, HashMap};
 
@@ -86,11 +86,6 @@ impl Store<'_> {
             self.report.case(pairs >= MANY_PAIRS, || format!("{what}: only {pairs} pairs of {query}"));
         }
     }
-}
-
-/// Trusts of facts, some unknown.
-pub fn trust_of(i: u32) -> Trust {
-    (i % 7 != 3).then_some((i * 37 % 2_001) as i32 - 1_000)
 }
 
 // ---- Buckets

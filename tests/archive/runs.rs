@@ -5,15 +5,11 @@ use crate::known_stops::{Fact, Store};
 use crate::means;
 use crate::paper::{Choice, CHOICES, MOST_RECORDS};
 use crate::report::Report;
-use crate::rows::{Row, Trust, Value};
+use crate::rows::{Row, Value};
 use crate::spaces::Spaces;
 use crate::subjects::LAST_TERM;
+use crate::tables::trust_of;
 use std::collections::{BTreeMap, BTreeSet};
-
-/// Trusts of facts, some unknown.
-fn trust_of(i: usize) -> Trust {
-    (i % 7 != 3).then_some((i * 37 % 2_001) as i32 - 1_000)
-}
 
 /// So many records: each subject has `run` of them, and the next subject is two more. Predicates are the least terms and objects
 /// the greatest, and with every second subject the other way round.
@@ -22,7 +18,7 @@ fn runs(count: usize, run: usize, first: u32) -> Vec<Fact> {
         let (subject, place) = ((i / run) as u32, (i % run) as u32);
         let (least, greatest) = (1, LAST_TERM - 255);
         let [predicate, object] = if subject % 2 == 0 { [least, greatest] } else { [greatest, least] };
-        ([first + 2 * subject, predicate + place / 256, object + place % 256], trust_of(i))
+        ([first + 2 * subject, predicate + place / 256, object + place % 256], trust_of(i as u32))
     };
     (0..count).map(one).collect()
 }
@@ -115,7 +111,7 @@ fn linked() -> Vec<Fact> {
     let objects =
         |n: u32| [subject(n * 7_919 + 1), subject(n * 101 + 7) + 1, subject(0), subject(SUBJECTS - 1), 1 + n % 999];
     let of_subject = |n: u32| (1..).zip(objects(n)).map(move |(predicate, object)| [subject(n), predicate, object]);
-    (0..SUBJECTS).flat_map(of_subject).enumerate().map(|(i, terms)| (terms, trust_of(i))).collect()
+    (0..SUBJECTS).flat_map(of_subject).enumerate().map(|(i, terms)| (terms, trust_of(i as u32))).collect()
 }
 
 /// The patterns `SUBJECT ?0 ?1, ?1 ?2 ?3, ...`, so many, and their rows. Some chains come back to a record.

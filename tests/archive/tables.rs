@@ -20,6 +20,11 @@ pub fn facts(facts: &[([u32; 3], Option<i32>)]) -> Vec<u8> {
     facts.iter().flat_map(|(terms, trust)| fact(*terms, *trust)).collect()
 }
 
+/// Trusts of facts by their numbers: some are unknown, and of the others each occurs.
+pub fn trust_of(i: u32) -> Option<i32> {
+    (i % 7 != 3).then_some((i * 37 % 2_001) as i32 - 1_000)
+}
+
 /// The store W of document 01.
 pub fn w() -> Vec<u8> {
     facts(&[([1, 10, 11], Some(900)), ([1, 10, 12], Some(200)), ([1, 20, 21], Some(800)), ([2, 20, 21], None)])

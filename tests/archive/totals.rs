@@ -301,7 +301,7 @@ const CHAIN_TALLY: Tally = Tally { answered: 0, refused: 0 };
 /// is no chain, has a table of 65,535 subjects.
 fn chain_inputs(query: &[u8]) -> (Vec<u8>, [usize; 2]) {
     if query == vectors::query(many_groups::LINKS) {
-        let table = many_groups::table(|i| i, many_groups::mixed);
+        let table = many_groups::table(|i| i, tables::trust_of);
         return (table, [MOST_ROWS * ROW_WORDS, MOST_ROWS * GROUP_WORDS]);
     }
     (chains::table(), [chains::SPACE * ROW_WORDS, CHAIN_ROOM])
