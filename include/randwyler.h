@@ -107,10 +107,10 @@ struct randwyler_rewritten {
     uint64_t length;
 };
 
-/* Writes a query that lists the same rows in the same order, by either choice of `mean`, to the front of the output, with every trust
- * bound pushed down as far as it goes. Takes a query of at most 1,024 bytes; the refusals are 5, 6, 7 and 9. No result has more than 5 times
- * the query's bytes: an output of 5,120 always does. The query is not written, nor are the output's bytes behind the
- * result; on a refusal none is. */
+/* Writes a query that lists the same rows in the same order, by either choice of `mean`, to the front of the output, with every
+ * trust bound pushed down as far as it goes. Takes a query of at most 1,024 bytes; the refusals are 5, 6, 7 and 9. No result has
+ * more than 5 times the query's bytes: an output of 5,120 always does. The query is not written, nor are the output's bytes behind
+ * the result; on a refusal none is. */
 struct randwyler_rewritten randwyler_rewrite(const uint8_t *query, size_t query_len, uint8_t *output, size_t output_len);
 
 /* Why a ceiling is refused, and where, as in struct randwyler_refusal; and the ceiling, 0 on a refusal. */
