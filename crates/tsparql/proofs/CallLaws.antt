@@ -1,6 +1,6 @@
 -- The calls: every number of an answer fits its type; lent memory keeps its length; an answered evaluation has at most the ceiling's
--- rows; two tables over which a query has one ceiling. Rewriting is in RewriteLaws, demand 3 in Demand3, the tally in TallyLaws.
--- Assumes nothing.
+-- rows; two tables over which a query has one ceiling; the ceiling of an additive query is exact (request 5). Rewriting is in RewriteLaws,
+-- demand 3 in Demand3, the tally in TallyLaws. Assumes nothing.
 use mathlib.Core.Path.{_≡_, refl}
 use mathlib.Core.Bool.{Bool, true, false}
 use mathlib.Core.List.{List}
@@ -9,22 +9,24 @@ use native.Mathlib.Nat.{mul-le-mul-right, min-le-right}
 use native.Mathlib.Omega.{arith}
 use borrow.Author.Tests.{eqb-true, eqb-false, eq-eqb, ne-eqb}
 use lib.ListN.{length}
+use Rattle.tsparql.specs.Values.{noCells}
 use Rattle.tsparql.specs.Query.{EverySet}
-use Rattle.tsparql.specs.Table.{View, wholeTable, factsIn}
-use Rattle.tsparql.specs.PatternSets.{Aggregate, Aggregation, aggregate, setRows}
-use Rattle.tsparql.specs.Ceiling.{greatest32, product, productFigure, ceilingOf}
+use Rattle.tsparql.specs.Table.{Fact, View, wholeTable, factsIn}
+use Rattle.tsparql.specs.PatternSets.{choices, Aggregate, Aggregation, aggregate, setRows, rowsOver, spaceOver}
+use Rattle.tsparql.specs.Ceiling.{greatest32, cut, exactFigure, ceilingOf, Additive}
 use Rattle.tsparql.specs.Reading.{queryNode}
 use Rattle.tsparql.specs.Check.{Refusal, Passes, passes, tableRefusal, queryRefusal, evaluateLimit, check}
-use Rattle.tsparql.specs.Evaluate.{Evaluated, evaluateOver}
+use Rattle.tsparql.specs.Evaluate.{capacity, Evaluated, evaluateOver}
 use Rattle.tsparql.specs.Calls.{Tally, evaluate, ceilingAnswered, ceilingRefused, ceilingOver, ceilingCall}
 use Rattle.tsparql.proofs.NodeSets.{ceilingOf-cong}
 use Rattle.tsparql.proofs.RefusalLaws.{orElse-cases}
 use Rattle.tsparql.proofs.TableLaws.{tableRefusal-cases}
 use Rattle.tsparql.proofs.QueryLaws.{query-checked, check-parts, check-alike, queryRefusal-cases}
-use Rattle.tsparql.proofs.CeilingLaws.{ceiling-fits}
+use Rattle.tsparql.proofs.CeilingLaws.{ceiling-fits, exact-figure, additive-ceiling}
 use Rattle.tsparql.specs.Writing.{nodeSize}
-use Rattle.tsparql.proofs.SpaceLaws.{pairs-≤}
-use Rattle.tsparql.proofs.EvaluateLaws.{answer-cases, evaluate-cases, evaluate-answered, length-space, rows-peak-≤, rows-≤-ceiling}
+use Rattle.tsparql.proofs.SpaceLaws.{pairs-≤, additive-space}
+use Rattle.tsparql.proofs.EvaluateLaws.{answer-fits, answer-cases, evaluate-checked, evaluate-cases, evaluate-answered, length-space}
+use Rattle.tsparql.proofs.EvaluateLaws.{rows-peak-≤, rows-≤-ceiling}
 
 -- ---- check
 
@@ -78,7 +80,7 @@ evaluate-fits t s g ws a =
 -- ---- ceiling
 
 module _ (v : View) (t s : List ℕ) where
-  pub ceiling-checked : Passes (check t s) → ceilingOver v t s ≡ ceilingAnswered (ceilingOf (productFigure (factsIn v t)) (queryNode s))
+  pub ceiling-checked : Passes (check t s) → ceilingOver v t s ≡ ceilingAnswered (ceilingOf (exactFigure (factsIn v t)) (queryNode s))
   unfolding ceilingOver
   ceiling-checked z = rw (eq-eqb (check t s .number) 0 z)
 
@@ -97,17 +99,17 @@ module _ (v : View) (t s : List ℕ) where
       go true e =
           let fs = factsIn v t in
           rw (ceiling-checked (eqb-true (check t s .number) 0 e))
-          (zero-le, zero-le, ceiling-fits (productFigure fs) (λ ps. min-le-right (product fs ps) greatest32) (queryNode s))
+          (zero-le, zero-le, ceiling-fits (exactFigure fs) (λ ps. min-le-right (length (choices fs ps noCells)) greatest32) (queryNode s))
       go false e =
           let fits = check-fits t s in
           rw (ceiling-refused (eqb-false (check t s .number) 0 e)) (fits .0, fits .1, zero-le)
 
 -- over two tables that pass the check, where every pattern set of a query has the same figure, its ceiling is the same
 pub ceiling-alike : (v w : View) (t u s : List ℕ) → Passes (tableRefusal t) → Passes (tableRefusal u)
-    → EverySet (λ ps. productFigure (factsIn v t) ps ≡ productFigure (factsIn w u) ps) (queryNode s) → ceilingOver v t s ≡ ceilingOver w u s
+    → EverySet (λ ps. exactFigure (factsIn v t) ps ≡ exactFigure (factsIn w u) ps) (queryNode s) → ceilingOver v t s ≡ ceilingOver w u s
 unfolding ceilingOver
 ceiling-alike v w t u s h k e =
-    rw (check-alike t u s h k, ceilingOf-cong (productFigure (factsIn v t)) (productFigure (factsIn w u)) (queryNode s) e)
+    rw (check-alike t u s h k, ceilingOf-cong (exactFigure (factsIn v t)) (exactFigure (factsIn w u)) (queryNode s) e)
 
 -- an answered evaluation has at most the ceiling's rows, by either choice
 pub rows-≤-ceilingCall : (t s : List ℕ) (g : Aggregation) (ws : List ℕ) (a : Tally) → Passes (evaluate t s g ws a .evaluated .refusal)
@@ -115,3 +117,40 @@ pub rows-≤-ceilingCall : (t s : List ℕ) (g : Aggregation) (ws : List ℕ) (a
 rows-≤-ceilingCall t s g ws a z =
     rw (ceiling-checked (wholeTable t) t s (evaluate-answered (aggregate g) (wholeTable t) t s ws z .checked))
     (rows-≤-ceiling (aggregate g) (wholeTable t) t s ws z)
+
+-- ---- the ceiling of an additive query (request 5)
+
+module _ (g : Aggregate) (t s : List ℕ) (checked : Passes (check t s)) (additive : Additive (queryNode s)) where
+  abbrev facts : List Fact
+  facts = factsIn (wholeTable t) t
+
+  -- it is the number of rows, cut, whatever makes their trust
+  pub ceilingCall-exact : ceilingCall t s .ceiling ≡ cut (length (rowsOver g facts (queryNode s)))
+  ceilingCall-exact =
+      rw (ceiling-checked (wholeTable t) t s checked)
+      (additive-ceiling (setRows g facts) (exactFigure facts) (exact-figure g facts) (queryNode s) additive)
+
+  rows-space : spaceOver g facts (queryNode s) ≡ length (rowsOver g facts (queryNode s))
+  rows-space = additive-space (setRows g facts) (queryNode s) additive
+
+  -- a ceiling that is at most the capacity is not cut
+  space-≤ : (words : ℕ) → ceilingCall t s .ceiling ≤ capacity words → spaceOver g facts (queryNode s) ≤ capacity words
+  space-≤ words h = omega (arith, rows-space, ceilingCall-exact)
+
+-- so it is answered exactly where the ceiling is at most the capacity, by either choice
+module _ (t s : List ℕ) (g : Aggregation) (ws : List ℕ) (a : Tally) (checked : Passes (check t s)) (additive : Additive (queryNode s)) where
+  pub room-answered : ceilingCall t s .ceiling ≤ capacity (length ws) → Passes (evaluate t s g ws a .evaluated .refusal)
+  room-answered h =
+      let v = wholeTable t in
+      let q = queryNode s in
+      let small = space-≤ (aggregate g) t s checked additive (length ws) h in
+      rw (evaluate-checked (aggregate g) v t s ws checked, answer-fits (aggregate g) (factsIn v t) q (length ws) small) refl
+
+  -- and then has so many rows
+  pub answered-rows : Passes (evaluate t s g ws a .evaluated .refusal)
+      → (evaluate t s g ws a .evaluated .rows ≡ ceilingCall t s .ceiling) × (ceilingCall t s .ceiling ≤ capacity (length ws))
+  answered-rows z =
+      let e = evaluate-answered (aggregate g) (wholeTable t) t s ws z in
+      let exact = ceilingCall-exact (aggregate g) t s checked additive in
+      let space = rows-space (aggregate g) t s checked additive in
+      rw (e .answer-is) (omega (arith, e .fits, space, exact), omega (arith, e .fits, space, exact))

@@ -20,7 +20,7 @@ use Rattle.tsparql.specs.Table.{Fact, bigEndian, recordAt, factOf, below
 use Rattle.tsparql.specs.PatternSets.{bindPattern, matches, choices, least, mean, Aggregation, byLeast, byMean, aggregate, setRows}
 use Rattle.tsparql.specs.PatternSets.{rowsOver, spaceOver, pairsOver}
 use Rattle.tsparql.specs.Tuples.{tuples, tupleRows}
-use Rattle.tsparql.specs.Ceiling.{matching, product, ceilingOf}
+use Rattle.tsparql.specs.Ceiling.{ceilingOf}
 use Rattle.tsparql.specs.Push.{push}
 use Rattle.tsparql.specs.Writing.{patternBytes, conditionBytes, nodeBytes}
 use Rattle.tsparql.specs.Reading.{readPattern, readPatterns, conditionStep, readConditionIn, readCondition}
@@ -96,6 +96,10 @@ none = hex "01 10 00 00 00 00 63 10 00 01"
 
 fifteen : List ℕ
 fifteen = hex "0F" ++ concatMap (λ n. hex "10 00 00 00 00 0A 10 00 01") (upFrom 0 15)
+
+-- five patterns without a term, no two of which share a variable
+five : List ℕ
+five = hex "05" ++ concatMap (λ n. hex "10 00" ++ ((3 * n) ∷ hex "10 00" ++ ((3 * n + 1) ∷ hex "10 00" ++ ((3 * n + 2) ∷ [])))) (upFrom 0 5)
 
 -- k unions of sets of fifteen patterns, behind other nodes
 unions : List ℕ → ℕ → List ℕ
@@ -415,12 +419,15 @@ conditionCases =
 -- ceilings and tallies
 figureCases : List Case
 figureCases =
-    -- ceilings: the empty set, a union's sum, a left join whose right side is empty; a product that is cut, and beside a 0
+    -- ceilings: the empty set, a union's sum, a left join whose right side is empty; of sets whose patterns share their variables, and
+    -- share none; a product that is cut, and beside a 0
     (ceilings W (hex "00") gives 0 ∷ 0 ∷ 1 ∷ [])
     ∷ (ceilings W (hex "30" ++ (A ++ B)) gives 0 ∷ 0 ∷ 4 ∷ [])
     ∷ (ceilings W (hex "20 70" ++ (B ++ none)) gives 0 ∷ 0 ∷ 2 ∷ [])
-    ∷ (ceilings W (hex "10 10" ++ (fifteen ++ (fifteen ++ fifteen))) gives 0 ∷ 0 ∷ 4294967295 ∷ [])
-    ∷ (ceilings W (hex "10 10 10" ++ (fifteen ++ (fifteen ++ (fifteen ++ none)))) gives 0 ∷ 0 ∷ 0 ∷ [])
+    ∷ (ceilings W (hex "10 10" ++ (fifteen ++ (fifteen ++ fifteen))) gives 0 ∷ 0 ∷ 8 ∷ [])
+    ∷ (ceilings W five gives 0 ∷ 0 ∷ 1024 ∷ [])
+    ∷ (ceilings W (hex "10 10 10" ++ (five ++ (five ++ (five ++ five)))) gives 0 ∷ 0 ∷ 4294967295 ∷ [])
+    ∷ (ceilings W (hex "10 10 10 10" ++ (five ++ (five ++ (five ++ (five ++ none))))) gives 0 ∷ 0 ∷ 0 ∷ [])
     -- tallies: answered, refused; a count that has stopped
     ∷ (tallies zeroTally (evaluation (hex "00") ∷ evaluation [] ∷ evaluation (hex "00") ∷ []) gives 2 ∷ 1 ∷ [])
     ∷ (tallies (record { answered = 4294967295; refused = 3 }) (evaluation (hex "00") ∷ evaluation [] ∷ []) gives 4294967295 ∷ 4 ∷ [])
@@ -588,7 +595,7 @@ computed-quick (t with s prints y) = rw (worked-is s, ← reported-is (rowLength
 
 -- each opens a group of what the cases compute with
 inputs : Unit {0}
-unfolding nibble nibbles inPairs hex W twoRecords lowAndHigh negative A B C none fifteen unions longest E anyKnown atMost500 joinAB leftAB
+unfolding nibble nibbles inPairs hex W twoRecords lowAndHigh negative A B C none fifteen five unions longest E anyKnown atMost500 joinAB leftAB
 inputs = tt
 
 entries : Unit {0}
@@ -632,7 +639,7 @@ unfolding trustProjections patternVariables variablesRefusal queryRefusal check 
 calls = tt
 
 figures : Unit {0}
-unfolding matching product ceilingOf ceilingOver tallied run evaluateUnless leastTrust groups totalsWords totalsOver
+unfolding ceilingOf ceilingOver tallied run evaluateUnless leastTrust groups totalsWords totalsOver
 figures = tt
 
 text : Unit {0}

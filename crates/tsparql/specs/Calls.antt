@@ -5,7 +5,7 @@ use mathlib.Core.List.{List}
 use Prim.Native.Nat.{ℕ, _+_, min}
 use Rattle.tsparql.specs.Table.{View, wholeTable, factsIn}
 use Rattle.tsparql.specs.PatternSets.{Aggregation, aggregate}
-use Rattle.tsparql.specs.Ceiling.{greatest32, productFigure, ceilingOf}
+use Rattle.tsparql.specs.Ceiling.{greatest32, exactFigure, ceilingOf}
 use Rattle.tsparql.specs.Reading.{queryNode}
 use Rattle.tsparql.specs.Check.{Refusal, noRefusal, passes, check}
 use Rattle.tsparql.specs.Evaluate.{Evaluated, evaluateOver}
@@ -59,7 +59,7 @@ ceilingRefused r = record { refusal = r; ceiling = 0 }
 unfoldable pub ceilingOver : View → List ℕ → List ℕ → CeilingAnswer
 ceilingOver v t s =
     let r = check t s in
-    cond (passes r) (ceilingAnswered (ceilingOf (productFigure (factsIn v t)) (queryNode s))) (ceilingRefused r)
+    cond (passes r) (ceilingAnswered (ceilingOf (exactFigure (factsIn v t)) (queryNode s))) (ceilingRefused r)
 
 -- the call
 abbrev pub ceilingCall : List ℕ → List ℕ → CeilingAnswer
