@@ -2,3 +2,4 @@
 pub mod Keys
 pub mod TrustBits
 pub mod Passing
+pub mod SearchLaws

@@ -1,10 +1,10 @@
--- What the answers of this crate's code mean in the terms of the definitions: the fields of a record, and what the check of a table
--- answers. A promise in several parts is a record. Assumes nothing.
+-- What the answers of this crate's code mean in the terms of the definitions: the fields of a record, what the check of a table answers,
+-- and where the records of a subject start. A promise in several parts is a record. Assumes nothing.
 use mathlib.Core.Path.{_≡_}
 use mathlib.Core.Bool.{Bool, true, false, cond}
 use mathlib.Core.List.{List}
-use Prim.Native.Nat.{ℕ, _+_, _*_, _%_, _^_}
-use Rattle.tsparql.specs.Table.{View, wholeTable}
+use Prim.Native.Nat.{ℕ, _+_, _*_, _%_, _^_, _≤_, _<_}
+use Rattle.tsparql.specs.Table.{View, wholeTable, recordAt, factOf}
 use Rattle.tsparql.specs.Check.{Refusal, refuse, noRefusal, passes, tableRefusal}
 use Rattle.table.specs.declared.Fields.{Fields}
 use Rattle.table.specs.declared.TableAnswer.{TableAnswer}
@@ -38,3 +38,9 @@ pub record Checked (t : List ℕ) (r : TableAnswer) : Type 0 where
   pub sound : soundIn r ≡ passes (tableRefusal t)
   pub refusal : refusalIn r ≡ tableRefusal t
   pub view : viewIn r ≡ cond (passes (tableRefusal t)) (wholeTable t) noRecords
+
+-- of the first n records, r is the first one whose subject is not less than a, or n where there is none
+pub record FirstFrom (t : List ℕ) (n a r : ℕ) : Type 0 where
+  pub within : r ≤ n
+  pub lesser : (i : ℕ) → i < r → factOf (recordAt t i) .subject < a
+  pub others : (i : ℕ) → r ≤ i → i < n → a ≤ factOf (recordAt t i) .subject
