@@ -7,6 +7,8 @@ mod conditions;
 mod fence;
 mod ffi;
 mod inputs;
+mod kinds;
+mod known_ceilings;
 mod limits;
 mod means;
 mod paper;
@@ -15,12 +17,14 @@ mod random;
 mod report;
 mod rows;
 mod stack;
+mod subjects;
 mod tables;
 mod threads;
 mod vectors;
 
+use known_ceilings::{test as known, CUT};
 use limits::{AtLimit, NullInput, TableAtLimit};
-use paper::{Ceiling, Refusal, CHECK_LIMIT, MOST_RECORDS, NONE};
+use paper::{Ceiling, Refusal, CHECK_LIMIT, NONE};
 use queries::{Nested, KINDS};
 use random::Random;
 use report::Report;
@@ -30,34 +34,34 @@ type Inputs = fn(&mut Random, &mut Nested) -> (Vec<u8>, Vec<u8>);
 
 /// Random cases.
 const CASES: [(Inputs, usize); 3] = [(inputs::narrow, 120_000), (inputs::wide, 20_000), (inputs::dense, 2_000)];
-/// The greatest ceiling.
-const CUT: u32 = 4_294_967_295;
-
-/// Tests a ceiling that is known without ceilings.rs.
-fn known(report: &mut Report, random: &mut Random, what: &str, table: &[u8], query: &[u8], expected: Ceiling) {
-    report.case(ceilings::ceiling(table, query) == expected, || format!("{what}: ceilings.rs differs"));
-    ceilings::test(report, random, what, (table, query), expected);
-}
+/// Files of vectors: the call of those for ceilings, and how many they are. From the first the lines that request 5 changes are gone.
+const FILES: [(&str, &str, usize, &str); 2] = [
+    ("base.txt", "ceiling", 656, include_str!("../vectors/base.txt")),
+    ("05-ceiling.txt", "exact", 250, include_str!("../vectors/05-ceiling.txt")),
+];
 
 /// A vector is `TABLE QUERY => NUMBER PLACE CEILING`.
 fn vectors(report: &mut Report) {
     let mut random = Random::new(1);
-    for vector in vectors::of("ceiling", include_str!("../vectors/base.txt")) {
-        let [table, query] = [0, 1].map(|i| vectors::bytes(&vector.inputs[i]));
-        let [number, place, ceiling] = [0, 1, 2].map(|i| vectors::number(&vector.answer[i]));
-        let expected = Ceiling { refusal: Refusal { number: number as u32, place }, ceiling: ceiling as u32 };
-        known(report, &mut random, &format!("line {} of base.txt", vector.line), &table, &query, expected);
+    for (name, call, lines, text) in FILES {
+        let all = vectors::of(call, text);
+        report.case(all.len() == lines, || format!("{name} has {} vectors, not {lines}", all.len()));
+        for vector in all {
+            let [table, query] = [0, 1].map(|i| vectors::bytes(&vector.inputs[i]));
+            let [number, place, ceiling] = [0, 1, 2].map(|i| vectors::number(&vector.answer[i]));
+            let expected = Ceiling { refusal: Refusal { number: number as u32, place }, ceiling: ceiling as u32 };
+            known(report, &mut random, &format!("line {} of {name}", vector.line), (&table, &query), expected);
+        }
     }
 }
 
-/// Ceilings on the store W, on one record with a term twice, and on as many records as a table may have.
+/// Ceilings on the store W, and on one record with a term twice.
 fn by_hand(report: &mut Report) {
-    let (w, twice, large) = (tables::w(), tables::fact([5, 5, 6], None), tables::large(MOST_RECORDS));
+    let (w, twice) = (tables::w(), tables::fact([5, 5, 6], None));
     let mut random = Random::new(2);
     for (what, table, query, ceiling) in [
         ("case 9", &w[..], "10 A B", 4),
         ("one pattern", &w, "A", 2),
-        ("two patterns, of which no record matches both", &w, "02 100000 000014 000015 100000 00000a 100001", 4),
         ("no pattern", &w, "00", 1),
         ("a union", &w, "30 A S", 6),
         ("a union with nothing", &w, "30 N B", 2),
@@ -75,30 +79,22 @@ fn by_hand(report: &mut Report) {
         ("a variable twice, the first and the last slot", &twice, "01 100003 100002 100003", 0),
         ("a variable three times", &twice, "01 100003 100003 100003", 0),
         ("terms beside a variable twice", &twice, "01 100003 000005 100003", 0),
-        ("every record", &large, "S", 65_535),
-        ("every record squared", &large, "02 P P", 4_294_836_225),
-        ("every record and one, times every record", &large, "10 30 S 00 S", 4_294_901_760),
-        ("a sum below the cut", &large, "30 02 P P S", 4_294_901_760),
-        ("a sum just at the cut", &large, "30 02 P P 30 S S", CUT),
-        ("a sum just above the cut", &large, "30 02 P P 30 S 30 00 S", CUT),
-        ("a product of 2 to the power of 32", &large, "10 30 S 00 30 00 S", CUT),
-        ("the same in a left join", &large, "20 70 30 S 00 30 00 S", CUT),
-        ("three patterns", &large, "03 P P P", CUT),
-        ("15 patterns", &large, "0f PPPPPPPPPPPPPPP", CUT),
-        ("15 patterns, the last without a match", &large, "0f PPPPPPPPPPPPPPQ", 0),
-        ("15 patterns, the first without a match", &large, "0f QPPPPPPPPPPPPPP", 0),
-        ("a cut product times 0", &large, "10 03 P P P N", 0),
-        ("0 times a cut product", &large, "10 N 03 P P P", 0),
-        ("a cut product times 1", &large, "10 03 P P P 00", CUT),
-        ("two cut products, times 0", &large, "10 10 03 P P P 03 P P P N", 0),
-        ("the sum of two cut values", &large, "30 03 P P P 03 P P P", CUT),
-        ("a cut value and 0", &large, "30 N 03 P P P", CUT),
-        ("a left join of a cut value with nothing", &large, "20 70 03 P P P N", CUT),
-        ("a left join of nothing with a cut value", &large, "20 70 N 03 P P P", 0),
-        ("a filter on a cut value", &large, "40 70 60 0007d0 5f 03 P P P", CUT),
     ] {
-        known(report, &mut random, what, table, &vectors::query(query), Ceiling { refusal: NONE, ceiling });
+        let expected = Ceiling { refusal: NONE, ceiling };
+        known(report, &mut random, what, (table, &vectors::query(query)), expected);
     }
+    known_ceilings::on_w(report);
+    known_ceilings::on_few(report);
+    report.part("cases by hand");
+    known_ceilings::paths(report);
+    known_ceilings::circles(report);
+    known_ceilings::layers(report);
+    known_ceilings::every_record(report);
+    known_ceilings::graphs(report);
+    report.part("tables by a rule");
+    known_ceilings::about_the_cut(report);
+    known_ceilings::cut_nodes(report);
+    report.part("ceilings about the cut");
 }
 
 fn at_limits(report: &mut Report) {
@@ -106,10 +102,10 @@ fn at_limits(report: &mut Report) {
     // The sound ones of limits::about are unions with the empty set, one for two bytes.
     let of = |refusal, ceiling| Ceiling { refusal, ceiling: if refusal == NONE { ceiling } else { 0 } };
     for AtLimit { what, query, refusal } in limits::about(CHECK_LIMIT) {
-        known(report, &mut random, &what, &[], &query, of(refusal, (query.len() as u32 + 1) / 2));
+        known(report, &mut random, &what, (&[], &query), of(refusal, (query.len() as u32 + 1) / 2));
     }
     for TableAtLimit { what, table, query, refusal } in limits::of_tables() {
-        known(report, &mut random, what, &table, &query, of(refusal, 1));
+        known(report, &mut random, what, (&table, &query), of(refusal, 1));
     }
     for NullInput { what, table, query, refusal } in limits::null_inputs() {
         let (table, query) = (table.as_deref(), query.as_deref());
@@ -154,8 +150,8 @@ fn deepest() -> Deepest<Ceiling> {
         chains: chains::all(&[], CHECK_LIMIT),
         shallow: chains::of_few_pairs(),
         shallow_kib: stack::SHALLOW,
-        call: |query| ffi::ceiling(&tables::w(), query),
-        expected: |query| ceilings::ceiling(&tables::w(), query),
+        call: |query| ffi::ceiling(&chains::table(), query),
+        expected: |query| ceilings::ceiling(&chains::table(), query),
     }
 }
 
@@ -163,7 +159,6 @@ fn parts(report: &mut Report) {
     vectors(report);
     report.part("vectors");
     by_hand(report);
-    report.part("cases by hand");
     at_limits(report);
     report.part("limits and NULL");
     random_cases(report);

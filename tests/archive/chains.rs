@@ -13,10 +13,10 @@ pub const E: &[u8] = &[0x60, 0x5D, 0xC7, 0xD0];
 pub const RECORDS: u32 = 32;
 pub const SPACE: usize = CHECK_LIMIT / 2 + 2 + 3 * RECORDS as usize;
 
-/// The table for chains: the store W, and records behind it.
+/// The table for chains: the store W, a record whose object is its subject, and others behind it.
 pub fn table() -> Vec<u8> {
-    let more: Vec<_> = (5..=RECORDS).map(|subject| ([subject, 30, 31], Some(700))).collect();
-    [tables::w(), tables::facts(&more)].concat()
+    let more: Vec<_> = (6..=RECORDS).map(|subject| ([subject, 30, 31], Some(700))).collect();
+    [tables::w(), tables::facts(&[([5, 10, 5], Some(600))]), tables::facts(&more)].concat()
 }
 
 pub struct Chain {
@@ -57,8 +57,9 @@ pub fn all(root: &[u8], length: usize) -> Vec<Chain> {
     let make = Maker { root, length };
     let distinct: Vec<u8> = (0x50..0x5F).collect();
     let pattern_of_0 = [0x01, 0x10, 0, 0, 0, 0, 1, 0, 0, 1];
-    // {?0 10 ?1}, 15 times.
-    let most_patterns = [&[0x0F][..], &[0x10, 0, 0, 0, 0, 10, 0x10, 0, 1].repeat(15)].concat();
+    // {?0 10 ?1, ?1 10 ?2, ..., ?14 10 ?15}: a record whose object is its subject matches all 15.
+    let linked = (0..15).flat_map(|variable| [0x10, 0, variable, 0, 0, 10, 0x10, 0, variable + 1]);
+    let most_patterns: Vec<u8> = [0x0F].into_iter().chain(linked).collect();
     let (start, end) = (root.len(), length);
     let nodes = |name, link: &[u8], tail: &[u8], refusal| make.chain(name, &[], link, SET, tail, &[], refusal);
     let conditions = |name, link: &[u8], tail: &[u8]| make.chain(name, &[0x40], link, TRUE, tail, SET, NONE);

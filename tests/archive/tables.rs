@@ -25,6 +25,12 @@ pub fn trust_of(i: u32) -> Option<i32> {
     (i % 7 != 3).then_some((i * 37 % 2_001) as i32 - 1_000)
 }
 
+/// A table of triples in any order, with trusts by the places of its records.
+pub fn of_triples(triples: impl IntoIterator<Item = [u32; 3]>) -> Vec<u8> {
+    let rising: BTreeSet<[u32; 3]> = triples.into_iter().collect();
+    rising.into_iter().zip(0..).flat_map(|(terms, i)| fact(terms, trust_of(i))).collect()
+}
+
 /// The store W of document 01.
 pub fn w() -> Vec<u8> {
     facts(&[([1, 10, 11], Some(900)), ([1, 10, 12], Some(200)), ([1, 20, 21], Some(800)), ([2, 20, 21], None)])

@@ -36,7 +36,7 @@ pub fn words(text: &str) -> Vec<u32> {
 }
 
 /// Names for parts of queries that are written by hand.
-const NAMES: [(char, &str); 8] = [
+const NAMES: [(char, &str); 12] = [
     ('A', "01 100000 000014 000015"), // {?0 20 21}
     ('B', "01 100000 00000a 100001"), // {?0 10 ?1}
     ('E', "60 5dc7d0"),               // ensure trust 500 to 1000
@@ -44,6 +44,10 @@ const NAMES: [(char, &str); 8] = [
     ('N', "01 Q"),                    // the set of the one pattern Q
     ('P', "100000 100001 100002"),    // ?0 ?1 ?2, which every record matches
     ('Q', "000063 000063 000063"),    // 99 99 99
+    ('R', "100003 100004 100005"),    // as P, with ?3 ?4 ?5
+    ('T', "100006 100007 100008"),    // ?6 ?7 ?8
+    ('U', "100009 10000a 10000b"),    // ?9 ?10 ?11
+    ('V', "10000c 10000d 10000e"),    // ?12 ?13 ?14
     (' ', ""),
 ];
 

@@ -84,7 +84,7 @@ module _ {A : Type 0} where
   sumOver-append [] ys f = sym (zero-add (sumOver ys f))
   sumOver-append (x ∷ xs) ys f = omega (arith, sumOver-append xs ys f)
 
-  sumOver-zero : (xs : List A) → sumOver xs (λ x. 0) ≡ 0
+  pub sumOver-zero : (xs : List A) → sumOver xs (λ x. 0) ≡ 0
   sumOver-zero [] = refl
   sumOver-zero (x ∷ xs) = omega (arith, sumOver-zero xs)
 
@@ -93,7 +93,7 @@ sumOver-map f h [] = refl
 sumOver-map f h (x ∷ xs) = ap (λ (n : ℕ). f (h x) + n) (sumOver-map f h xs)
 
 -- a sum of sums, in either order
-sumOver-swap : {A B : Type 0} (xs : List A) (ys : List B) (h : A → B → ℕ)
+pub sumOver-swap : {A B : Type 0} (xs : List A) (ys : List B) (h : A → B → ℕ)
     → sumOver xs (λ x. sumOver ys (h x)) ≡ sumOver ys (λ y. sumOver xs (λ x. h x y))
 sumOver-swap [] ys h = sym (sumOver-zero ys)
 sumOver-swap (x ∷ xs) ys h =
