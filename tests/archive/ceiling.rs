@@ -14,6 +14,7 @@ mod means;
 mod paper;
 mod queries;
 mod random;
+mod random_sets;
 mod report;
 mod rows;
 mod stack;
@@ -163,6 +164,8 @@ fn parts(report: &mut Report) {
     report.part("limits and NULL");
     random_cases(report);
     report.part("random cases");
+    random_sets::random_cases(report);
+    report.part("random sets");
 }
 
 fn main() {

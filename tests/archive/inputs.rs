@@ -51,6 +51,30 @@ pub fn pattern_set(random: &mut Random) -> (Vec<u8>, Vec<u8>) {
     (table, queries::pattern_set(random, &MANY_PATTERNS.with_terms(&terms)))
 }
 
+/// A table of few terms, and a set of patterns in up to four parts: each pattern has variables of one part. Now and then a pattern stands
+/// twice, or has a term that no record has.
+pub fn parts(random: &mut Random) -> (Vec<u8>, Vec<u8>) {
+    let [records, terms, parts] = [(1, 250), (1, 6), (1, 4)].map(|(least, most)| random.within(least, most));
+    let table = tables::table_of_terms(random, records, |random| random.within(1, terms) as u32);
+    let most = random.pick(&[3, 6, 15]);
+    let count = random.within(1, most);
+    let mut patterns: Vec<[[u8; 3]; 3]> = Vec::new();
+    for place in 0..count {
+        let part = random.below(parts);
+        patterns.push(match random.below(12) {
+            0 if place > 0 => random.pick(&patterns),
+            _ => [0; 3].map(|_| match random.below(6) {
+                0 => vectors::of_term(random.within(1, terms) as u32),
+                _ => [0x10, 0, (4 * part + random.below(4)) as u8],
+            }),
+        });
+    }
+    if random.once_in(8) {
+        patterns[random.below(count)][random.below(3)] = vectors::of_term(9);
+    }
+    (table, [&[count as u8], patterns.as_flattened().as_flattened()].concat())
+}
+
 /// A slot of one of the variables 0 to 3, or of a term.
 fn slot(random: &mut Random, terms: &[u32]) -> [u8; 3] {
     if random.below(3) > 0 {

@@ -1,6 +1,4 @@
 -- The laws that the proofs of this crate's functions cite, each file above the ones that use it.
-pub mod CutLaws
-pub mod FigureLaws
 pub mod NodeLaws
 pub mod AnswerLaws
 pub mod CheckedLaws
