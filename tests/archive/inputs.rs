@@ -51,13 +51,10 @@ pub fn pattern_set(random: &mut Random) -> (Vec<u8>, Vec<u8>) {
     (table, queries::pattern_set(random, &MANY_PATTERNS.with_terms(&terms)))
 }
 
-/// A table of few terms, and a set of patterns in up to four parts: each pattern has variables of one part. Now and then a pattern stands
+/// A set of at most so many patterns in up to four parts: each pattern has variables of one part, of four. Now and then a pattern stands
 /// twice, or has a term that no record has.
-pub fn parts(random: &mut Random) -> (Vec<u8>, Vec<u8>) {
-    let [records, terms, parts] = [(1, 250), (1, 6), (1, 4)].map(|(least, most)| random.within(least, most));
-    let table = tables::table_of_terms(random, records, |random| random.within(1, terms) as u32);
-    let most = random.pick(&[3, 6, 15]);
-    let count = random.within(1, most);
+fn set_of_parts(random: &mut Random, terms: usize, most: usize) -> Vec<u8> {
+    let (count, parts) = (random.within(1, most), random.within(1, 4));
     let mut patterns: Vec<[[u8; 3]; 3]> = Vec::new();
     for place in 0..count {
         let part = random.below(parts);
@@ -72,7 +69,41 @@ pub fn parts(random: &mut Random) -> (Vec<u8>, Vec<u8>) {
     if random.once_in(8) {
         patterns[random.below(count)][random.below(3)] = vectors::of_term(9);
     }
-    (table, [&[count as u8], patterns.as_flattened().as_flattened()].concat())
+    [&[count as u8], patterns.as_flattened().as_flattened()].concat()
+}
+
+/// A table of up to so many records with at most 8 terms, and how many terms these are.
+fn table_of_few(random: &mut Random, most: usize) -> (Vec<u8>, usize) {
+    let (records, terms) = (random.within(1, most), random.within(1, 8));
+    (tables::table_of_terms(random, records, |random| random.within(1, terms) as u32), terms)
+}
+
+/// A table of few terms, and a set of patterns in several parts.
+pub fn parts(random: &mut Random) -> (Vec<u8>, Vec<u8>) {
+    let (table, terms) = table_of_few(random, 500);
+    let most = random.pick(&[3, 6, 15]);
+    (table, set_of_parts(random, terms, most))
+}
+
+/// A table of few terms, and unions and project trusts over some sets.
+pub fn additive(random: &mut Random) -> (Vec<u8>, Vec<u8>) {
+    let most = random.pick(&[4, 30, 120]);
+    let (table, terms) = table_of_few(random, most);
+    let sets = random.within(1, 5);
+    let mut operands: Vec<Vec<u8>> =
+        (0..sets).map(|_| if random.once_in(10) { vec![0x00] } else { set_of_parts(random, terms, 4) }).collect();
+    let mut unused: Vec<u8> =
+        (0..16).filter(|v| !operands.iter().any(|set| set[1..].chunks(3).any(|slot| slot == [0x10, 0, *v]))).collect();
+    while operands.len() > 1 || random.once_in(3) {
+        let at = random.below(operands.len());
+        if at > 0 {
+            let right = operands.remove(at);
+            operands[at - 1] = [&[0x30], &operands[at - 1][..], &right].concat();
+        } else if let Some(variable) = unused.pop() {
+            operands[0].insert(0, 0x50 | variable);
+        }
+    }
+    (table, operands.remove(0))
 }
 
 /// A slot of one of the variables 0 to 3, or of a term.

@@ -87,7 +87,7 @@ fn greatest_inputs(report: &mut Report) {
     let longest = limits::unions(MOST_REWRITE_QUERY_BYTES);
     number(report, "rewriting, the longest query", ANSWERED, rewrite(&longest, &mut output).number);
 
-    let cut = ceiling_of(most, &vectors::query("03 P P P"));
+    let cut = ceiling_of(most, &vectors::query("03 P R T"));
     report
         .case((cut.number, cut.ceiling) == (ANSWERED, MOST_CEILING), || format!("three patterns of every record: {cut:?}"));
 

@@ -41,7 +41,7 @@ fn kinds_of_set(records: &[Record], patterns: &[Pattern], figure: u64) -> [Kind;
         ("no record for the first pattern alone", 300, only(|place, _| place == 0)),
         ("no record for one between others alone", 300, only(|place, last| place > 0 && place < last)),
         ("no record for the last one alone", 300, only(|place, last| place == last)),
-        ("no row, though each pattern has a record", 1_000, !rows && unmatched.is_empty()),
+        ("no row, though each pattern has a record", 500, !rows && unmatched.is_empty()),
         ("fewer rows than choices for each pattern alone", 5_000, rows && figure < choices),
         ("as many rows as choices for each of several patterns alone", 1_000, rows && last > 0 && figure == choices),
         ("rows, and two parts in turns", 1_000, rows && each.len() == 2 && turns > 2),
@@ -51,7 +51,7 @@ fn kinds_of_set(records: &[Record], patterns: &[Pattern], figure: u64) -> [Kind;
         ("rows, and 15 patterns", 100, rows && last == 14),
         ("one row", 500, figure == 1),
         ("over 65,535 rows, and fewer than the cut", 300, figure > MOST_ROWS as u64 && figure < u64::from(CUT)),
-        ("as many rows as the cut", 100, figure == u64::from(CUT)),
+        ("as many rows as the cut", 20, figure == u64::from(CUT)),
     ]
 }
 

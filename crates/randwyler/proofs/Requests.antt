@@ -2,23 +2,28 @@
 -- evaluation (`totals-calls`), their tally (`totals-tally-calls`), and of a rewriting (`totals-rewritten-calls`). Request 2: a query that
 -- names its subjects, over tables with other records behind these (`replaced-calls`, `replaced-ceiling-calls`). Request 3: the rows in the
 -- row space (`rows-calls`), and how often one stands there (`sparql11-calls`, `published-calls`). Request 4: all these by either choice; a
--- query beside its rewriting, and the ceiling, in Demand3. Assumes nothing.
+-- query beside its rewriting, and the ceiling, in Demand3. Request 5: the ceiling of a query of pattern sets, unions and project trust
+-- (`exact-calls`), and the row space that it needs (`room-calls`). Assumes nothing.
 use mathlib.Core.Path.{_≡_, sym, ap, ap₂, subst, _∙_}
 use mathlib.Core.Bool.{true, false}
 use mathlib.Core.List.{List}
-use Prim.Native.Nat.{ℕ}
+use Prim.Native.Nat.{ℕ, _≤_, _<_}
+use native.Mathlib.Omega.{arith}
 use lib.ListN.{length, take}
 use Rattle.tsparql.specs.Values.{Row}
 use Rattle.tsparql.specs.Query.{EverySet}
 use Rattle.tsparql.specs.Table.{wholeTable, recordAt, factOf, factsIn}
 use Rattle.tsparql.specs.PatternSets.{Aggregation, aggregate, setRows, rowsOver}
+use Rattle.tsparql.specs.Ceiling.{cut, Additive}
 use Rattle.tsparql.specs.Reading.{queryNode}
+use Rattle.tsparql.specs.Evaluate.{capacity}
 use Rattle.tsparql.specs.Rewrite.{rewrite, Accepted, written}
-use Rattle.tsparql.specs.Check.{Passes, tableRefusal}
+use Rattle.tsparql.specs.Check.{Passes, tableRefusal, check}
 use Rattle.tsparql.specs.WellFormed.{Bytes}
 use Rattle.tsparql.specs.Cardinality.{cardinality, NoError, publishedCardinality, sparql11Cardinality}
 use Rattle.tsparql.specs.Calls.{raiseOne, tallied, evaluateUntallied, evaluate, ceilingCall}
 use Rattle.tsparql.specs.Totals.{totalsUntallied, totalsCall, TotalsBeside}
+use Rattle.tsparql.proofs.CallLaws.{ceiling-passes, ceilingCall-exact, room-answered, room-refused}
 use Rattle.tsparql.proofs.MeanLaws.{aggregate-sound}
 use Rattle.tsparql.proofs.Published.{aggregate-set, query-sparql11, query-published}
 use Rattle.tsparql.proofs.TotalsLaws.{totals-evaluate, totals-tally, totals-rewritten}
@@ -122,3 +127,29 @@ module _ (t s : List ℕ) (g : Aggregation) (space space′ : List ℕ) (a : Tal
   published-calls r e =
       ap (λ (rs : List Row). cardinality rs r) rows-calls
       ∙ query-published (aggregate g) (aggregate-set g) t s (evaluation-checked t s g space none-refused) r e
+
+-- ---- request 5
+
+-- the ceiling of a query s over a table t is answered, and the query has only pattern sets, unions and project trust
+module _ (t s : List ℕ) (additive : Additive (queryNode s)) (c : Ceiling) (is : ceilingIn c ≡ ceilingCall t s) (number : c .number ≡ 0) where
+  is-checked : Passes (check t s)
+  is-checked = ceiling-passes (wholeTable t) t s (ap (λ x. x .refusal .number) (sym is) ∙ number)
+
+  -- it is the number of rows, cut, by either choice
+  pub exact-calls : (g : Aggregation) → c .ceiling ≡ cut (length (rowsOver (aggregate g) (factsIn (wholeTable t) t) (queryNode s)))
+  exact-calls g = ap (λ x. x .ceiling) is ∙ ceilingCall-exact (aggregate g) t s is-checked additive
+
+  -- an evaluation is answered exactly where the ceiling is at most the capacity, with so many rows; else it is refused with 8
+  pub room-calls : (g : Aggregation) (space space′ : List ℕ) (a : Tally) (x : Evaluated)
+      → evaluatedIn x space′ ≡ evaluate t s g space (tallyIn a)
+      → (c .ceiling ≤ capacity (length space) → (x .number ≡ 0) × (x .rows ≡ c .ceiling))
+      × (capacity (length space) < c .ceiling → x .number ≡ 8)
+  room-calls g space space′ a x query =
+      let ceiling = ap (λ y. y .ceiling) is in
+      let refusal = ap (λ y. y .evaluated .refusal .number) query in
+      let rows = ap (λ y. y .evaluated .rows) query in
+      (
+        λ h. let e = room-answered t s g space (tallyIn a) is-checked additive (omega (arith, ceiling)) in
+            (refusal ∙ e .0, rows ∙ e .1 ∙ sym ceiling),
+        λ h. refusal ∙ ap (λ r. r .number) (room-refused t s g space (tallyIn a) is-checked additive (omega (arith, ceiling))),
+      )

@@ -15,7 +15,7 @@ use Rattle.tsparql.specs.Table.{Fact, View, wholeTable, factsIn}
 use Rattle.tsparql.specs.PatternSets.{choices, Aggregate, Aggregation, aggregate, setRows, rowsOver, spaceOver}
 use Rattle.tsparql.specs.Ceiling.{greatest32, cut, exactFigure, ceilingOf, Additive}
 use Rattle.tsparql.specs.Reading.{queryNode}
-use Rattle.tsparql.specs.Check.{Refusal, Passes, passes, tableRefusal, queryRefusal, evaluateLimit, check}
+use Rattle.tsparql.specs.Check.{Refusal, Passes, refuse, passes, tableRefusal, queryRefusal, evaluateLimit, check}
 use Rattle.tsparql.specs.Evaluate.{capacity, Evaluated, evaluateOver}
 use Rattle.tsparql.specs.Calls.{Tally, evaluate, ceilingAnswered, ceilingRefused, ceilingOver, ceilingCall}
 use Rattle.tsparql.proofs.NodeSets.{ceilingOf-cong}
@@ -25,8 +25,8 @@ use Rattle.tsparql.proofs.QueryLaws.{query-checked, check-parts, check-
 use Rattle.tsparql.proofs.CeilingLaws.{ceiling-fits, exact-figure, additive-ceiling}
 use Rattle.tsparql.specs.Writing.{nodeSize}
 use Rattle.tsparql.proofs.SpaceLaws.{pairs-≤, additive-space}
-use Rattle.tsparql.proofs.EvaluateLaws.{answer-fits, answer-cases, evaluate-checked, evaluate-cases, evaluate-answered, length-space}
-use Rattle.tsparql.proofs.EvaluateLaws.{rows-peak-≤, rows-≤-ceiling}
+use Rattle.tsparql.proofs.EvaluateLaws.{answer-fits, answer-full, answer-cases, evaluate-checked, evaluate-cases}
+use Rattle.tsparql.proofs.EvaluateLaws.{evaluate-answered, length-space, rows-peak-≤, rows-≤-ceiling}
 
 -- ---- check
 
@@ -88,6 +88,14 @@ module _ (v : View) (t s : List ℕ) where
   unfolding ceilingOver
   ceiling-refused z = rw (ne-eqb (check t s .number) 0 z)
 
+  -- it is refused where the check refuses
+  pub ceiling-passes : Passes (ceilingOver v t s .refusal) → Passes (check t s)
+  ceiling-passes z = go (passes (check t s)) refl
+    where
+      go : (b : Bool) → passes (check t s) ≡ b → Passes (check t s)
+      go true e = eqb-true (check t s .number) 0 e
+      go false e = let p = eqb-false (check t s .number) 0 e in absurd (p (rw (ceiling-refused p) at z))
+
   -- number and place are the check's, and the ceiling fits in 32 bits
   pub ceiling-call-fits : (ceilingOver v t s .refusal .number ≤ 7) × (ceilingOver v t s .refusal .place ≤ 65534)
       × (ceilingOver v t s .ceiling ≤ greatest32)
@@ -133,24 +141,26 @@ module _ (g : Aggregate) (t s : List ℕ) (checked : Passes (check t s)) (additi
   rows-space : spaceOver g facts (queryNode s) ≡ length (rowsOver g facts (queryNode s))
   rows-space = additive-space (setRows g facts) (queryNode s) additive
 
-  -- a ceiling that is at most the capacity is not cut
-  space-≤ : (words : ℕ) → ceilingCall t s .ceiling ≤ capacity words → spaceOver g facts (queryNode s) ≤ capacity words
-  space-≤ words h = omega (arith, rows-space, ceilingCall-exact)
-
--- so it is answered exactly where the ceiling is at most the capacity, by either choice
+-- so an evaluation is answered exactly where the ceiling is at most the capacity, with so many rows, by either choice
 module _ (t s : List ℕ) (g : Aggregation) (ws : List ℕ) (a : Tally) (checked : Passes (check t s)) (additive : Additive (queryNode s)) where
-  pub room-answered : ceilingCall t s .ceiling ≤ capacity (length ws) → Passes (evaluate t s g ws a .evaluated .refusal)
-  room-answered h =
-      let v = wholeTable t in
-      let q = queryNode s in
-      let small = space-≤ (aggregate g) t s checked additive (length ws) h in
-      rw (evaluate-checked (aggregate g) v t s ws checked, answer-fits (aggregate g) (factsIn v t) q (length ws) small) refl
+  facts-rows : spaceOver (aggregate g) (factsIn (wholeTable t) t) (queryNode s)
+      ≡ length (rowsOver (aggregate g) (factsIn (wholeTable t) t) (queryNode s))
+  facts-rows = rows-space (aggregate g) t s checked additive
 
-  -- and then has so many rows
-  pub answered-rows : Passes (evaluate t s g ws a .evaluated .refusal)
-      → (evaluate t s g ws a .evaluated .rows ≡ ceilingCall t s .ceiling) × (ceilingCall t s .ceiling ≤ capacity (length ws))
-  answered-rows z =
-      let e = evaluate-answered (aggregate g) (wholeTable t) t s ws z in
-      let exact = ceilingCall-exact (aggregate g) t s checked additive in
-      let space = rows-space (aggregate g) t s checked additive in
-      rw (e .answer-is) (omega (arith, e .fits, space, exact), omega (arith, e .fits, space, exact))
+  exact : ceilingCall t s .ceiling ≡ cut (length (rowsOver (aggregate g) (factsIn (wholeTable t) t) (queryNode s)))
+  exact = ceilingCall-exact (aggregate g) t s checked additive
+
+  pub room-answered : ceilingCall t s .ceiling ≤ capacity (length ws)
+      → Passes (evaluate t s g ws a .evaluated .refusal) × (evaluate t s g ws a .evaluated .rows ≡ ceilingCall t s .ceiling)
+  room-answered h =
+      let fs = factsIn (wholeTable t) t in
+      let fits : spaceOver (aggregate g) fs (queryNode s) ≤ capacity (length ws) = omega (arith, facts-rows, exact) in
+      rw (evaluate-checked (aggregate g) (wholeTable t) t s ws checked, answer-fits (aggregate g) fs (queryNode s) (length ws) fits)
+      (refl, omega (arith, facts-rows, exact))
+
+  -- and refused with 8 where it is above
+  pub room-refused : capacity (length ws) < ceilingCall t s .ceiling → evaluate t s g ws a .evaluated .refusal ≡ refuse 8 0
+  room-refused h =
+      let fs = factsIn (wholeTable t) t in
+      let full : capacity (length ws) < spaceOver (aggregate g) fs (queryNode s) = omega (arith, facts-rows, exact) in
+      rw (evaluate-checked (aggregate g) (wholeTable t) t s ws checked, answer-full (aggregate g) fs (queryNode s) (length ws) full)
