@@ -21,6 +21,11 @@ compile_totals() {
     compile_c "$1" bench/{clock,record}.c bench/evaluate/store.c bench/totals/{group,questions,tables,totals}.c "${sqlite[@]}" -lm
 }
 
+# compile_ceiling: the program that compares and times ceilings.
+compile_ceiling() {
+    compile_c target/bench/ceiling bench/{clock,record}.c bench/evaluate/store.c bench/ceiling/ceiling.c -lm
+}
+
 # compile_call CALL: the program that compares and times a call that has a folder of its own.
 compile_call() {
     compile_c "target/bench/$1" bench/{clock,record}.c bench/"$1"/*.c

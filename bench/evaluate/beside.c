@@ -3,12 +3,13 @@
  *
  *   beside RECORDS...   for each table, and then for each set with many rows, prints a line a question: how many rows it has by least,
  *                       milliseconds of both evaluations, and how many times as long the other takes; milliseconds of ours by mean, and how
- *                       many times as long that takes as by least; then the ceiling, with the times of both
+ *                       many times as long that takes as by least; then our ceiling, with the times of both
  *
  * OTHER_VERSION is the first number of the version of the other archive's header: in 1 an evaluation has no choice and is by least.
  * The row space has as many rows as the table has records, for a set with many rows the most. Nothing is timed before the answers have
- * been compared, every number and every word of the row space: by least with the other's, by mean with those of plain.c. Rounds
- * alternate, and the best of each stands. */
+ * been compared, every number and every word of the row space: by least with the other's, by mean with those of plain.c. Our ceiling may be
+ * less than the other's, which before request 5 was the product over the patterns, but not less than the rows. Rounds alternate, and the
+ * best of each stands. */
 #include <math.h>
 #include <stdio.h>
 #include <stdlib.h>
@@ -104,10 +105,10 @@ static bool same_rows(const struct store *s, enum contender one, enum contender 
            memcmp(s->space[one], s->space[other], s->words * sizeof *s->space[one]) == 0;
 }
 
-static bool same_ceiling(const struct store *s, const struct query *q)
+static bool right_ceiling(const struct store *s, const struct query *q)
 {
     struct randwyler_ceiling a = ceiling_of(s, OURS, q), b = ceiling_of(s, OTHER, q);
-    return a.number == 0 && b.number == 0 && a.place == b.place && a.ceiling == b.ceiling;
+    return a.number == 0 && b.number == 0 && a.place == b.place && a.ceiling >= evaluate(s, OURS, q).rows && a.ceiling <= b.ceiling;
 }
 
 /* ---- times */
@@ -143,7 +144,7 @@ static void time_call(call *answer, enum contender last, const struct store *s, 
 static void time_question(const struct question *question, const struct store *s)
 {
     struct query q = question_query(question, s->table, s->records);
-    if (!same_rows(s, OURS, OTHER, &q) || !same_rows(s, OURS_MEAN, PLAIN_MEAN, &q) || !same_ceiling(s, &q)) {
+    if (!same_rows(s, OURS, OTHER, &q) || !same_rows(s, OURS_MEAN, PLAIN_MEAN, &q) || !right_ceiling(s, &q)) {
         fprintf(stderr, "beside: %s, %zu records: another answer, or no row\n", question->name, s->records);
         exit(1);
     }

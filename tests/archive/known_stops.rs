@@ -188,6 +188,22 @@ const FREE: [Known; 6] = [
     ),
 ];
 
+const UNMATCHED: [Known; 13] = [
+    ("the first", "5 ?0 ?1, ?2 ?3 ?4, 2 ?5 ?6", &[]),
+    ("one between others", "?2 ?3 ?4, 5 ?0 ?1, 2 ?5 ?6", &[]),
+    ("the last", "?2 ?3 ?4, 2 ?5 ?6, 5 ?0 ?1", &[]),
+    ("all of them", "5 ?0 ?1, 7 ?2 ?3", &[]),
+    ("by its predicate", "?0 2 ?1, ?0 3 ?2", &[]),
+    ("by its object, between others", "?0 2 ?1, ?2 ?3 5, ?0 4 ?4", &[]),
+    ("by a variable twice", "2 ?0 ?1, 2 ?2 ?2", &[]),
+    ("behind one that only a record matches", "8 8 8, 8 8 9", &[]),
+    ("none, but the subject that is bound has no such record", "2 4 ?0, ?0 8 ?1", &[]),
+    ("none, but a chain ends, beside other patterns", "?4 ?5 ?6, ?0 6 ?1, ?1 4 ?2, ?7 8 ?8, ?2 8 ?3", &[]),
+    ("none, one by the last record alone", "2 4 ?0, ?1 8 8", &["0 ?0=6 ?1=8"]),
+    ("none, one by the first record alone", "?1 8 8, ?0 2 4", &["0 ?0=2 ?1=8"]),
+    ("none, one by a record of unknown trust alone", "2 4 ?0, 4 2 8", &["? ?0=6"]),
+];
+
 pub fn sets(report: &mut Report) {
     let mut spaces = Spaces::new(3);
     let mut store = Store::new(FACTS.to_vec(), Choice::Least, &mut spaces, report);
@@ -197,6 +213,7 @@ pub fn sets(report: &mut Report) {
         ("a chain", &CHAINS),
         ("a variable twice", &TWICE),
         ("a free subject", &FREE),
+        ("a pattern that no record matches", &UNMATCHED),
     ] {
         for (what, patterns, rows) in known {
             store.test_set(&format!("{sort}, {what}"), patterns, printed::rows(rows));
@@ -238,6 +255,21 @@ pub fn other_nodes(report: &mut Report) {
         ("a left join, nothing compatible", "20 70", &["2 2 ?0", "?0 8 ?1"], &["900 ?0=4", "800 ?0=9"], [6, 4, 4]),
         ("a left join, ?1 = 3", "20 21 000003", &["2 2 ?0", "?0 2 ?1"], &["600 ?0=4 ?1=3", "800 ?0=9"], [10, 12, 12]),
         ("a left join, bound ?0", "20 00", &["2 2 ?0", "4 4 ?0"], &["500 ?0=4", "800 ?0=9"], [5, 2, 2]),
+        (
+            "a join with a set of two patterns",
+            "10",
+            &["2 2 ?0", "?0 2 ?1, ?0 4 ?2"],
+            &["500 ?0=4 ?1=3 ?2=4", "? ?0=4 ?1=8 ?2=4"],
+            [8, 8, 8],
+        ),
+        (
+            "a left join with two patterns that have no row",
+            "20 70",
+            &["2 2 ?0", "6 2 ?1, ?1 ?2 ?3"],
+            &["900 ?0=4", "800 ?0=9"],
+            [4, 0, 2],
+        ),
+        ("a union with a pattern that no record matches", "30", &["2 4 ?0", "?1 ?2 ?3, 5 ?4 ?5"], &["700 ?0=6"], [1, 0, 1]),
         ("a filter, ?0 = 6", "40 20 000006", &["2 ?1 ?0"], &["700 ?0=6 ?1=4"], [3, 0, 3]),
         (
             "project trust",
