@@ -131,7 +131,8 @@ module _ (t s : List ℕ) (g : Aggregation) (space space′ : List ℕ) (a : Tal
 -- ---- request 5
 
 -- the ceiling of a query s over a table t is answered, and the query has only pattern sets, unions and project trust
-module _ (t s : List ℕ) (additive : Additive (queryNode s)) (c : Ceiling) (is : ceilingIn c ≡ ceilingCall t s) (number : c .number ≡ 0) where
+module _ (t s : List ℕ) (additive : Additive (queryNode s)) (c : Ceiling) (is : ceilingIn c ≡ ceilingCall t s)
+    (number : c .number ≡ 0) where
   is-checked : Passes (check t s)
   is-checked = ceiling-passes (wholeTable t) t s (ap (λ x. x .refusal .number) (sym is) ∙ number)
 
@@ -147,8 +148,7 @@ module _ (t s : List ℕ) (additive : Additive (queryNode s)) (c : Ceiling) (is 
   room-calls g space space′ a x query =
       let ceiling = ap (λ y. y .ceiling) is in
       let refusal = ap (λ y. y .evaluated .refusal .number) query in
-      let rows = ap (λ y. y .evaluated .rows) query in
-      (
+      let rows = ap (λ y. y .evaluated .rows) query in (
         λ h. let e = room-answered t s g space (tallyIn a) is-checked additive (omega (arith, ceiling)) in
             (refusal ∙ e .0, rows ∙ e .1 ∙ sym ceiling),
         λ h. refusal ∙ ap (λ r. r .number) (room-refused t s g space (tallyIn a) is-checked additive (omega (arith, ceiling))),

@@ -595,7 +595,8 @@ computed-quick (t with s prints y) = rw (worked-is s, ← reported-is (rowLength
 
 -- each opens a group of what the cases compute with
 inputs : Unit {0}
-unfolding nibble nibbles inPairs hex W twoRecords lowAndHigh negative A B C none fifteen five unions longest E anyKnown atMost500 joinAB leftAB
+unfolding nibble nibbles inPairs hex W twoRecords lowAndHigh negative A B C none fifteen five unions longest E anyKnown atMost500 joinAB
+    leftAB
 inputs = tt
 
 entries : Unit {0}
