@@ -27,27 +27,28 @@ use random::Random;
 use report::Report;
 use rows::{Outcome, Seen, MOST_ROWS, ROW_WORDS};
 use spaces::Spaces;
+use vectors::set;
 
 const RANDOM_CASES: usize = 8_000;
 /// rows.rs is not asked where it takes more steps.
 const MOST_STEPS: u64 = 20_000;
 
-/// Evaluates in a row space of so many words. Without the rows of rows.rs the case fails if the answer is not that of so many rows, or
-/// if a row space without room is not all 0.
+/// Evaluates in a row space of so many words where rows.rs is not asked. The case fails if the answer is not that of so many rows, or if a
+/// word behind them is not 0.
 fn evaluate(report: &mut Report, spaces: &mut Spaces, what: &str, inputs: Inputs, rows: u32, words: usize) {
     let (mut space, tally) = (spaces.0.lend(words), spaces.tally());
     let got = ffi::evaluate(inputs, space.slice_mut(), tally);
     let fits = rows as usize <= rows::capacity(words);
-    let expected = match fits {
-        true => Evaluated { refusal: NONE, rows, peak: rows, pairs: 0, tally: got.tally },
-        false => Evaluated { refusal: refusal(8, 0), rows: 0, peak: 0, pairs: 0, tally: got.tally },
-    };
+    let (refusal, rows) = if fits { (NONE, rows) } else { (refusal(8, 0), 0) };
+    let mut expected = Evaluated { refusal, rows, peak: rows, pairs: 0, tally };
+    let count = if fits { &mut expected.tally.answered } else { &mut expected.tally.refused };
+    *count = count.saturating_add(1);
     report.evaluate(what, inputs, words, expected, got);
-    let behind = if fits { rows as usize * ROW_WORDS } else { 0 };
-    report.case(space.slice()[behind..].iter().all(|word| *word == 0), || format!("{what}: a word of {words} is not 0"));
+    let zeros = space.slice()[rows as usize * ROW_WORDS..].iter().all(|word| *word == 0);
+    report.case(zeros, || format!("{what}: a word of {words} behind {rows} rows is not 0"));
 }
 
-/// Tests the ceiling of a query, and its evaluation in just as much space, in a word and in a row less, and in more. Answers whether
+/// Tests the ceiling of a query, and its evaluation in just as much space, in a word less, in a row less and in more. Answers whether
 /// rows.rs was asked, by either choice.
 fn test(report: &mut Report, spaces: &mut Spaces, what: &str, (table, query): (&[u8], &[u8]), ceiling: u32) -> bool {
     let expected = Ceiling { refusal: NONE, ceiling };
@@ -73,12 +74,11 @@ fn test(report: &mut Report, spaces: &mut Spaces, what: &str, (table, query): (&
         }
         outcome.is_some()
     });
-    by_choice == [true; CHOICES.len()]
+    by_choice.iter().all(|asked| *asked)
 }
 
 fn by_hand(report: &mut Report) {
     let mut spaces = Spaces::new(1);
-    let set = |patterns: &str| vectors::set(patterns);
     let side = |predicate, count| (1..=count).map(move |object| [1, predicate, object]);
     let sides = |one, other| tables::of_triples(side(1, one).chain(side(2, other)));
     let stars = |sizes: &[u32]| tables::of_triples(known_ceilings::stars(sizes));
@@ -130,7 +130,7 @@ fn random_cases(report: &mut Report) {
         kinds.count(&[
             ("no row", 500, rows == 0),
             ("one row", 500, rows == 1),
-                        ("up to 300 rows, also by rows.rs", 3_000, rows > 1 && rows <= 300 && by_rows),
+            ("up to 300 rows, also by rows.rs", 3_000, rows > 1 && rows <= 300 && by_rows),
             ("301 to 65,535 rows", 400, rows > 300 && rows <= 65_535),
             ("over 65,535 rows", 10, rows > 65_535 && rows < CUT),
             ("rows of a union", 3_000, rows > 0 && union),

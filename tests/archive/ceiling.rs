@@ -1,5 +1,5 @@
-//! Tests `randwyler_ceiling_of` of the built archive: vectors, cases by hand, independent ceilings (ceilings.rs), limits, and
-//! the stack it needs. The last line is 'N passed, M failed'.
+//! Tests `randwyler_ceiling_of` of the built archive: vectors, cases by hand, tables made by a rule, independent ceilings (ceilings.rs,
+//! which is held to the rows of rows.rs), limits, and the stack it needs. The last line is 'N passed, M failed'.
 
 mod ceilings;
 mod chains;

@@ -51,8 +51,8 @@ pub fn pattern_set(random: &mut Random) -> (Vec<u8>, Vec<u8>) {
     (table, queries::pattern_set(random, &MANY_PATTERNS.with_terms(&terms)))
 }
 
-/// A set of at most so many patterns in up to four parts: each pattern has variables of one part, of four. Now and then a pattern stands
-/// twice, or has a term that no record has.
+/// A set of at most so many patterns in up to four parts, which have no variable in common. Now and then a pattern stands twice, or has a
+/// term that no record has.
 fn set_of_parts(random: &mut Random, terms: usize, most: usize) -> Vec<u8> {
     let (count, parts) = (random.within(1, most), random.within(1, 4));
     let mut patterns: Vec<[[u8; 3]; 3]> = Vec::new();
@@ -96,11 +96,11 @@ pub fn additive(random: &mut Random) -> (Vec<u8>, Vec<u8>) {
         (0..16).filter(|v| !operands.iter().any(|set| set[1..].chunks(3).any(|slot| slot == [0x10, 0, *v]))).collect();
     while operands.len() > 1 || random.once_in(3) {
         let at = random.below(operands.len());
-        if at > 0 {
+        if random.once_in(3) {
+            operands[at].splice(0..0, unused.pop().map(|variable| 0x50 | variable));
+        } else if at > 0 {
             let right = operands.remove(at);
             operands[at - 1] = [&[0x30], &operands[at - 1][..], &right].concat();
-        } else if let Some(variable) = unused.pop() {
-            operands[0].insert(0, 0x50 | variable);
         }
     }
     (table, operands.remove(0))

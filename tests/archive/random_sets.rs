@@ -1,4 +1,4 @@
-//! Random pattern sets of several parts, that is, of patterns that are linked by common variables, and their ceilings.
+//! Random pattern sets, many in several parts, which have no variable in common, and their ceilings.
 
 use crate::ceilings;
 use crate::inputs;

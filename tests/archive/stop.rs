@@ -1,7 +1,7 @@
-//! Tests of the built archive for requests 2 and 5: a scan for a subject that is named ends at the first record of a greater one, and begins
-//! at its first one if a variable names it; a set with a pattern that no record matches is empty at once; and no answer changes. Evaluations
-//! and ceilings whose subjects are terms, variables that are bound, or free: on tables made by a rule, by hand, with the records behind
-//! replaced, and at random, by rows.rs and ceilings.rs. The last line is 'N passed, M failed'.
+//! Tests of the built archive for requests 2 and 5: a scan for a subject that is named ends at the first record of a greater one, and
+//! begins at its first one if a variable names it; a set with a pattern that no record matches is empty at once; and no answer changes.
+//! Evaluations and ceilings whose subjects are terms, variables that are bound, or free: on tables made by a rule, by hand, with the
+//! records behind replaced, and at random, by rows.rs and ceilings.rs. The last line is 'N passed, M failed'.
 
 mod ceilings;
 mod conditions;

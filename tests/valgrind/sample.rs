@@ -119,6 +119,7 @@ fn main() {
             0 | 4 => inputs::unions(&mut random),
             1 => left_joins::inputs(&mut random),
             2 | 6 => inputs::pattern_set(&mut random),
+            5 => inputs::additive(&mut random),
             _ => inputs::narrow(&mut random, &mut [[0; KINDS]; KINDS]),
         };
         // A boxed slice has no room behind its end.
