@@ -16,7 +16,6 @@ enum { MOST_PARTS = RANDWYLER_MOST_QUERY_BYTES / 2 };
 struct part {
     uint64_t space;
     uint64_t ceiling;
-    size_t end; /* the first byte behind it */
 };
 
 /* SPACE_UNKNOWN if one of them is. */
@@ -28,6 +27,25 @@ static uint64_t sum(uint64_t a, uint64_t b)
 static uint64_t greater(uint64_t a, uint64_t b)
 {
     return a > b ? a : b;
+}
+
+/* A ceiling, as the formula for a node gives it by those of its operands: SPACE_UNKNOWN where it is cut. */
+static uint64_t known_below_cut(uint64_t ceiling)
+{
+    return ceiling < RANDWYLER_MOST_CEILING ? ceiling : SPACE_UNKNOWN;
+}
+
+/* Of two ceilings. */
+static uint64_t product(uint64_t a, uint64_t b)
+{
+    if (a == 0 || b == 0) return 0;
+    return a == SPACE_UNKNOWN || b == SPACE_UNKNOWN ? SPACE_UNKNOWN : known_below_cut(a * b);
+}
+
+static uint64_t node_ceiling(int kind, uint64_t left, uint64_t right)
+{
+    if (kind == UNION) return known_below_cut(sum(left, right));
+    return product(left, kind == LEFT_JOIN ? greater(right, 1) : right);
 }
 
 /* The first byte behind the condition at a byte. */
@@ -59,12 +77,11 @@ static size_t behind_head(const uint8_t *query, size_t place)
     }
 }
 
-/* Of a query, or of a node of one: what a query passes its operands pass. */
-static uint64_t ceiling_of(const uint8_t *table, size_t table_len, const uint8_t *node, size_t node_len)
+/* Of a pattern set, as a query of its own. */
+static uint64_t set_ceiling(const uint8_t *table, size_t table_len, const uint8_t *set, size_t set_len)
 {
-    struct randwyler_ceiling answer = randwyler_ceiling_of(table, table_len, node, node_len);
-    if (answer.number != RANDWYLER_ANSWERED || answer.ceiling == RANDWYLER_MOST_CEILING) return SPACE_UNKNOWN;
-    return answer.ceiling;
+    struct randwyler_ceiling answer = randwyler_ceiling_of(table, table_len, set, set_len);
+    return answer.number == RANDWYLER_ANSWERED ? known_below_cut(answer.ceiling) : SPACE_UNKNOWN;
 }
 
 uint64_t space_bound(const uint8_t *table, size_t table_len, const uint8_t *query, size_t query_len)
@@ -81,15 +98,14 @@ uint64_t space_bound(const uint8_t *table, size_t table_len, const uint8_t *quer
         size_t place = nodes[count];
         int kind = query[place] >> 4;
         if (kind == PATTERN_SET) {
-            size_t end = behind_head(query, place);
-            uint64_t ceiling = ceiling_of(table, table_len, query + place, end - place);
-            parts[known++] = (struct part){ceiling, ceiling, end};
+            uint64_t ceiling = set_ceiling(table, table_len, query + place, behind_head(query, place) - place);
+            parts[known++] = (struct part){ceiling, ceiling};
         } else if (kind == JOIN || kind == LEFT_JOIN || kind == UNION) {
             struct part left = parts[--known], *right = &parts[known - 1];
-            uint64_t ceiling = ceiling_of(table, table_len, query + place, right->end - place);
+            uint64_t ceiling = node_ceiling(kind, left.ceiling, right->ceiling);
             uint64_t space = greater(left.space, sum(left.ceiling, right->space));
             if (kind != UNION) space = greater(space, sum(sum(left.ceiling, right->ceiling), ceiling));
-            *right = (struct part){space, ceiling, right->end};
+            *right = (struct part){space, ceiling};
         }
         /* A node of one operand has the operand's bound, and no more rows than it. */
     }

@@ -11,10 +11,10 @@
 /* So many rows of row space are enough for the query on the table, and for its rewriting, if they are at most RANDWYLER_MOST_ROWS; or
  * SPACE_UNKNOWN.
  *
- * Takes the ceiling of every pattern set, join, left join and union of the query. Each of these calls checks the table and reads all
- * bytes of its node, so that the time grows with the square of the query's length in the worst case: 465 pattern sets in unions, on as
- * many records as a table may have, took 8 to 10 seconds on a busy machine. Takes about 72 KB of stack beside that of the calls, at
- * any depth of the query. */
+ * Takes the ceiling of every pattern set of the query, and those of the other nodes from them. Each of these calls checks the table and
+ * counts the rows of its set: 465 sets of one pattern in unions, on as many records as a table may have, took half a second; what a set of
+ * several patterns takes is said under "Time" in docs/INTEGRATION.md. Takes about 52 KB of stack beside that of the calls, at any depth of
+ * the query. */
 uint64_t space_bound(const uint8_t *table, size_t table_len, const uint8_t *query, size_t query_len);
 
 #endif
