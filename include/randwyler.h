@@ -121,8 +121,8 @@ struct randwyler_ceiling {
 };
 
 /* A number of rows that no answered evaluation of the query on the table exceeds, cut at 4,294,967,295. Of a query that has only
- * pattern sets, unions and project trust it is the number of rows, by either choice of `mean`, and of rows of row space that an
- * evaluation needs. It is counted without row space: for patterns that hold together by shared variables that may take as long as to
+ * pattern sets, unions and project trust it is exactly the number of rows, by either choice of `mean`, and an evaluation needs just so
+ * many rows of row space. It is counted without row space: for patterns that hold together by shared variables that may take as long as to
  * search for their rows, in the worst case exponentially long in their number. Takes what randwyler_check takes, and refuses what it
  * refuses. Nothing is written. */
 struct randwyler_ceiling randwyler_ceiling_of(const uint8_t *table, size_t table_len, const uint8_t *query, size_t query_len);

@@ -81,8 +81,8 @@ int main(void)
             ceiling = fmin(ceiling, counted - checked);
             check = fmin(check, checked - start);
         }
-        printf("%-40s %10u %10.3f %8.1f %12.3f %8.1f\n", sets[set].name, ceiling_of(set).ceiling, ceiling / 1e6, ceiling / check, rows / 1e6,
-               rows / check);
+        printf("%-40s %10u %10.3f %8.1f %12.3f %8.1f\n", sets[set].name, ceiling_of(set).ceiling, ceiling / 1e6, ceiling / check,
+               rows / 1e6, rows / check);
     }
     return 0;
 }

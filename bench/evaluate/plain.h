@@ -1,6 +1,6 @@
 /* The evaluation of a query, as a C programmer would write it down: what randwyler_evaluate is measured against. It has the
- * same refusals and algorithms: a pattern set scans the records for each pattern in turn, as far as the subject that the pattern
- * asks for, a join with many pairs chains its right rows. */
+ * same refusals and algorithms: a pattern set scans the records for each pattern in turn, from the subject that a variable has and as
+ * far as the one that the pattern asks for, unless a pattern matches nothing; a join with many pairs chains its right rows. */
 #ifndef PLAIN_H
 #define PLAIN_H
 
