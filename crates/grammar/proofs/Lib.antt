@@ -1,0 +1,12 @@
+-- Laws about typed queries, each file above those that it uses.
+pub mod Accepts
+pub mod Numerals
+pub mod TableFacts
+pub mod Lexing
+pub mod Faults
+pub mod Reading
+pub mod Means
+pub mod Sizes
+pub mod Dots
+pub mod TextCalls
+pub mod Cases
