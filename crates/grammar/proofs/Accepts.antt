@@ -82,11 +82,13 @@ afterGroup (then (byPlus n h e) a) = absurd (false≢true e)
 afterGroup (then (byMinus n l h e) a) = absurd (false≢true e)
 
 mutual
-  ofDisjunction : (d : Disjunction) {σ : List Symbol} {k : List Token} → Accepts (sTail ∷ σ) k → Accepts (sPrimary ∷ sTail ∷ σ) (disjunction d k)
+  ofDisjunction : (d : Disjunction) {σ : List Symbol} {k : List Token}
+      → Accepts (sTail ∷ σ) k → Accepts (sPrimary ∷ sTail ∷ σ) (disjunction d k)
   ofDisjunction (conjuncts c) a = ofConjunction c a
   ofDisjunction (either d c) a = ofDisjunction d (then (byMark _ _ at2) (ofConjunction c a))
 
-  ofConjunction : (c : Conjunction) {σ : List Symbol} {k : List Token} → Accepts (sTail ∷ σ) k → Accepts (sPrimary ∷ sTail ∷ σ) (conjunction c k)
+  ofConjunction : (c : Conjunction) {σ : List Symbol} {k : List Token}
+      → Accepts (sTail ∷ σ) k → Accepts (sPrimary ∷ sTail ∷ σ) (conjunction c k)
   ofConjunction (single p) a = ofPrimary p a
   ofConjunction (both c p) a = ofConjunction c (then (byMark _ _ at1) (ofPrimary p a))
 
@@ -118,7 +120,8 @@ at4 = List·Memᴰ·tail at3
 pub at5 : {x y z w v u : Entry} {xs : List Entry} → List·Memᴰ x (y ∷ z ∷ w ∷ v ∷ u ∷ x ∷ xs)
 at5 = List·Memᴰ·tail at4
 
-ofTriple : (x y z : Slot) {σ : List Symbol} {k : List Token} → Accepts (sAfterTriple ∷ σ) k → Accepts (sBody ∷ σ) (slotToken x ∷ slotToken y ∷ slotToken z ∷ k)
+ofTriple : (x y z : Slot) {σ : List Symbol} {k : List Token}
+    → Accepts (sAfterTriple ∷ σ) k → Accepts (sBody ∷ σ) (slotToken x ∷ slotToken y ∷ slotToken z ∷ k)
 ofTriple (term t) y z a = then (byTerm (t .number) (t .least) (t .most) refl refl) (ofSlot y (ofSlot z a))
 ofTriple (variable v) y z a = then (byVar (v .name) (v .small) refl) (ofSlot y (ofSlot z a))
 
@@ -130,9 +133,11 @@ mutual
   ofBody {m} (element e b) a = ofElement e m (afterElement (ofBody b a))
   ofBody {m} (elementDot e b) a = ofElement e m (then (byMark T.DOT (sBody ∷ []) at0) (ofBody b a))
 
-  ofElement : (e : Element) (m : Bool) {σ : List Symbol} {k : List Token} → Accepts (sAfterElement ∷ σ) k → Accepts (symOf m ∷ σ) (elementTokens e k)
+  ofElement : (e : Element) (m : Bool) {σ : List Symbol} {k : List Token}
+      → Accepts (sAfterElement ∷ σ) k → Accepts (symOf m ∷ σ) (elementTokens e k)
   ofElement (groups g us) m a = then (byMark T.LBRACE (sBody ∷ sAfterGroup ∷ []) (inElements m at1)) (ofBody g (ofUnions us a))
-  ofElement (optional g) m a = then (byMark T.OPTIONAL (sLBrace ∷ sBody ∷ sAfterElement ∷ []) (inElements m at2)) (then (byMark _ _ at0) (ofBody g a))
+  ofElement (optional g) m a =
+      then (byMark T.OPTIONAL (sLBrace ∷ sBody ∷ sAfterElement ∷ []) (inElements m at2)) (then (byMark _ _ at0) (ofBody g a))
   ofElement (filter d) m a =
       then (byMark T.FILTER (sLParen ∷ sPrimary ∷ sTail ∷ sAfterElement ∷ []) (inElements m at3))
       (then (byMark _ _ at0) (ofDisjunction d (then (byMark _ _ at0) a)))
@@ -171,12 +176,14 @@ attached f c (orThen p t) = attached (either (f c)) (single p) t
 
 attached-tokens : (f : Conjunction → Disjunction) (pre : List Token → List Token)
     → ((c : Conjunction) (k : List Token) → disjunction (f c) k ≡ pre (conjunction c k))
-    → (c : Conjunction) (t : Tail) (k : List Token) → disjunction (attached f c t) (mark T.RPAREN ∷ k) ≡ pre (conjunction c (tailTokens t k))
+    → (c : Conjunction) (t : Tail) (k : List Token)
+    → disjunction (attached f c t) (mark T.RPAREN ∷ k) ≡ pre (conjunction c (tailTokens t k))
 unfolding attached
 attached-tokens f pre h c closed k = h c (mark T.RPAREN ∷ k)
 attached-tokens f pre h c (andThen p t) k = attached-tokens f pre h (both c p) t k
 attached-tokens f pre h c (orThen p t) k =
-    attached-tokens (either (f c)) (λ (l : List Token). disjunction (f c) (mark T.OR ∷ l)) (λ d l. refl) (single p) t k ∙ h c (mark T.OR ∷ primary p (tailTokens t k))
+    attached-tokens (either (f c)) (λ (l : List Token). disjunction (f c) (mark T.OR ∷ l)) (λ d l. refl) (single p) t k
+    ∙ h c (mark T.OR ∷ primary p (tailTokens t k))
 
 inParens : Primary → Tail → Disjunction
 inParens p t = attached conjuncts (single p) t
@@ -284,12 +291,17 @@ elementsBuilt m σ = (
         (λ vs. (
           put (filter (inParens (vs .1 .0) (vs .1 .1 .0))) (vs .1 .1 .1 .0),
           vs .1 .1 .1 .1,
-          put-tokens m _ (vs .1 .1 .1 .0) _ ∙ ap (λ (l : List Token). mark T.FILTER ∷ mark T.LPAREN ∷ l) (inParens-tokens (vs .1 .0) (vs .1 .1 .0) _),
+          put-tokens m _ (vs .1 .1 .1 .0) _
+              ∙ ap (λ (l : List Token). mark T.FILTER ∷ mark T.LPAREN ∷ l) (inParens-tokens (vs .1 .0) (vs .1 .1 .0) _),
         )),
         (
           (λ vs. (put (trustAs (vs .1 .0)) (vs .1 .1 .0), vs .1 .1 .1, put-tokens m _ (vs .1 .1 .0) _)),
           (
-            (λ vs. (put (ensure (vs .1 .1 .0) (vs .1 .1 .1 .1 .0)) (vs .1 .1 .1 .1 .1 .1 .0), vs .1 .1 .1 .1 .1 .1 .1, put-tokens m _ (vs .1 .1 .1 .1 .1 .1 .0) _)),
+            (λ vs. (
+              put (ensure (vs .1 .1 .0) (vs .1 .1 .1 .1 .0)) (vs .1 .1 .1 .1 .1 .1 .0),
+              vs .1 .1 .1 .1 .1 .1 .1,
+              put-tokens m _ (vs .1 .1 .1 .1 .1 .1 .0) _,
+            )),
             tt,
           ),
         ),
@@ -304,7 +316,11 @@ negatablesBuilt σ = (
   (
     (λ vs. (not (vs .0), vs .1, refl)),
     (
-      (λ vs. (parens (inParens (vs .0) (vs .1 .0)), vs .1 .1, ap (λ (l : List Token). mark T.LPAREN ∷ l) (inParens-tokens (vs .0) (vs .1 .0) _))),
+      (λ vs. (
+        parens (inParens (vs .0) (vs .1 .0)),
+        vs .1 .1,
+        ap (λ (l : List Token). mark T.LPAREN ∷ l) (inParens-tokens (vs .0) (vs .1 .0) _),
+      )),
       tt,
     ),
   ),
@@ -357,7 +373,8 @@ tripleOf : Slot → Slot → AfterTriple → Slot → Body true
 tripleOf y z (inl b) x = tripleDot x y z b
 tripleOf y z (inr b) x = triple x y z b
 
-tripleOf-tokens : (x y z : Slot) (r : AfterTriple) (k : List Token) → body (tripleOf y z r x) k ≡ slotToken x ∷ slotToken y ∷ slotToken z ∷ dotted r k
+tripleOf-tokens : (x y z : Slot) (r : AfterTriple) (k : List Token)
+    → body (tripleOf y z r x) k ≡ slotToken x ∷ slotToken y ∷ slotToken z ∷ dotted r k
 unfolding tripleOf
 tripleOf-tokens x y z (inl b) k = refl
 tripleOf-tokens x y z (inr b) k = refl
@@ -366,12 +383,17 @@ slotBuilt : (X : Symbol) (σ : List Symbol) (s : Slot) (o : Option (List Symbol)
 slotBuilt X σ s none = Unit {0}
 slotBuilt X σ s (some α) = (vs : Vals (α ++ σ)) → Built X σ (slotToken s ∷ yields (α ++ σ) vs)
 
+-- the body that a first slot and the values behind it begin
+tripleBuilt : (x : Slot) (σ : List Symbol) (vs : Vals (sSlot ∷ sSlot ∷ sAfterTriple ∷ σ))
+    → BuiltBody true σ (slotToken x ∷ yields (sSlot ∷ sSlot ∷ sAfterTriple ∷ σ) vs)
+tripleBuilt x σ vs = (tripleOf (vs .0) (vs .1 .0) (vs .1 .1 .0) x, vs .1 .1 .1, tripleOf-tokens x _ _ (vs .1 .1 .0) _)
+
 varsBuilt : (X : Symbol) (σ : List Symbol) (v : Variable) → slotBuilt X σ (variable v) (vars X)
 unfolding slotBuilt
-varsBuilt sBody σ v = λ vs. (tripleOf (vs .0) (vs .1 .0) (vs .1 .1 .0) (variable v), vs .1 .1 .1, tripleOf-tokens _ _ _ (vs .1 .1 .0) _)
+varsBuilt sBody σ v = tripleBuilt (variable v) σ
 varsBuilt sAfterTriple σ v = tt
-varsBuilt sAfterElement σ v = λ vs. (inr (tripleOf (vs .0) (vs .1 .0) (vs .1 .1 .0) (variable v)), vs .1 .1 .1, tripleOf-tokens _ _ _ (vs .1 .1 .0) _)
-varsBuilt sAfterGroup σ v = λ vs. ((G.none, inr (tripleOf (vs .0) (vs .1 .0) (vs .1 .1 .0) (variable v))), vs .1 .1 .1, tripleOf-tokens _ _ _ (vs .1 .1 .0) _)
+varsBuilt sAfterElement σ v = λ vs. let r = tripleBuilt (variable v) σ vs in (inr (r .0), r .1, r .2)
+varsBuilt sAfterGroup σ v = λ vs. let r = tripleBuilt (variable v) σ vs in ((G.none, inr (r .0)), r .1, r .2)
 varsBuilt sSlot σ v = λ vs. (variable v, vs, refl)
 varsBuilt sVar σ v = λ vs. (v, vs, refl)
 varsBuilt sBound σ v = tt
@@ -396,10 +418,10 @@ varsBuilt sTRUST σ v = tt
 
 termsBuilt : (X : Symbol) (σ : List Symbol) (t : Term) → slotBuilt X σ (term t) (terms X)
 unfolding slotBuilt
-termsBuilt sBody σ t = λ vs. (tripleOf (vs .0) (vs .1 .0) (vs .1 .1 .0) (term t), vs .1 .1 .1, tripleOf-tokens _ _ _ (vs .1 .1 .0) _)
+termsBuilt sBody σ t = tripleBuilt (term t) σ
 termsBuilt sAfterTriple σ t = tt
-termsBuilt sAfterElement σ t = λ vs. (inr (tripleOf (vs .0) (vs .1 .0) (vs .1 .1 .0) (term t)), vs .1 .1 .1, tripleOf-tokens _ _ _ (vs .1 .1 .0) _)
-termsBuilt sAfterGroup σ t = λ vs. ((G.none, inr (tripleOf (vs .0) (vs .1 .0) (vs .1 .1 .0) (term t))), vs .1 .1 .1, tripleOf-tokens _ _ _ (vs .1 .1 .0) _)
+termsBuilt sAfterElement σ t = λ vs. let r = tripleBuilt (term t) σ vs in (inr (r .0), r .1, r .2)
+termsBuilt sAfterGroup σ t = λ vs. let r = tripleBuilt (term t) σ vs in ((G.none, inr (r .0)), r .1, r .2)
 termsBuilt sSlot σ t = λ vs. (term t, vs, refl)
 termsBuilt sVar σ t = tt
 termsBuilt sBound σ t = tt
@@ -414,7 +436,8 @@ termsBuilt sComma σ t = tt
 termsBuilt sAS σ t = tt
 termsBuilt sTRUST σ t = tt
 
-boundsBuilt : (X : Symbol) (σ : List Symbol) (x : Thousandths) → isBound X ≡ true → (vs : Vals σ) → Built X σ (thousandthsToken x ∷ yields σ vs)
+boundsBuilt : (X : Symbol) (σ : List Symbol) (x : Thousandths) → isBound X ≡ true → (vs : Vals σ)
+    → Built X σ (thousandthsToken x ∷ yields σ vs)
 boundsBuilt sBody σ x e vs = absurd (false≢true e)
 boundsBuilt sAfterTriple σ x e vs = absurd (false≢true e)
 boundsBuilt sAfterElement σ x e vs = absurd (false≢true e)
@@ -433,12 +456,16 @@ boundsBuilt sComma σ x e vs = absurd (false≢true e)
 boundsBuilt sAS σ x e vs = absurd (false≢true e)
 boundsBuilt sTRUST σ x e vs = absurd (false≢true e)
 
-stepBuilt : {X : Symbol} {t : Token} {α : List Symbol} (σ : List Symbol) → Step X t α → (vs : Vals (α ++ σ)) → Built X σ (t ∷ yields (α ++ σ) vs)
+stepBuilt : {X : Symbol} {t : Token} {α : List Symbol} (σ : List Symbol) → Step X t α → (vs : Vals (α ++ σ))
+    → Built X σ (t ∷ yields (α ++ σ) vs)
 unfolding slotBuilt
 stepBuilt {X} σ (byMark w α h) vs = every-at (FromMark X σ) (marks X) (marksBuilt X σ) h vs
-stepBuilt {X} σ (byVar n h e) vs = (subst (slotBuilt X σ (variable (record { name = n; small = h }))) e (varsBuilt X σ (record { name = n; small = h }))) vs
+stepBuilt {X} σ (byVar n h e) vs =
+    let v : Variable = record { name = n; small = h } in
+    subst (slotBuilt X σ (variable v)) e (varsBuilt X σ v) vs
 stepBuilt {X} σ (byTerm n l h e f) vs =
-    (subst (slotBuilt X σ (term (record { number = n; least = l; most = h }))) e (termsBuilt X σ (record { number = n; least = l; most = h }))) vs
+    let t : Term = record { number = n; least = l; most = h } in
+    subst (slotBuilt X σ (term t)) e (termsBuilt X σ t) vs
 stepBuilt {X} σ (byPlus n h e) vs = boundsBuilt X σ (plus n h) e vs
 stepBuilt {X} σ (byMinus n l h e) vs = boundsBuilt X σ (minus n l h) e vs
 

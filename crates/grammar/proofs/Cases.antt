@@ -1,11 +1,10 @@
--- Typed queries worked out by hand, as one table about the definitions with one proof, by computation. An entry has a text, and what request
--- 6 says of it: its query, the place of refusal 11, or the whole answer of the call for an output of sevens. Groups: texts that mean
--- something; texts without a derivation; the call. Assumes nothing.
+-- Typed queries worked out by hand, as one table about the definitions with one proof, by computation. An entry has a text, and what
+-- request 6 says of it: its query, the place of refusal 11, or the whole answer of the call for an output of sevens. Groups: texts that
+-- mean something; texts without a derivation; the call. Assumes nothing.
 use mathlib.Core.Path.{_≡_, refl}
 use mathlib.Core.List.{List, [], _∷_, _++_, map}
-use mathlib.Core.Option.{Option, none, some}
+use mathlib.Core.Option.{Option, some}
 use Prim.Native.Nat.{ℕ}
-use Prim.Native.String.{String}
 use lib.ListN.{replicate}
 use Rattle.tsparql.specs.Lists.{concatMap, upFrom}
 use Rattle.tsparql.specs.Query.{Slot, aTerm, aVariable, Pattern, bound, same, isTerm, less, negation, conjunction, disjunction, always}
@@ -15,7 +14,7 @@ use Rattle.tsparql.specs.Check.{refuse}
 use Rattle.tsparql.specs.Rewrite.{Rewritten, wroteNothing}
 use Rattle.tsparql.specs.Strikes.{ascii}
 use Rattle.grammar.specs.Meaning.{gathered, projected, bounded, filters, conjoined}
-use Rattle.grammar.specs.Automaton.{Outcome, accepted, fault, onto, run, read}
+use Rattle.grammar.specs.Automaton.{accepted, fault, onto, run, read}
 use Rattle.grammar.specs.TokenMeaning.{semantics, nodeOf, textNode}
 use Rattle.grammar.specs.ReadText.{textBytes, textRefusal, readText}
 
@@ -80,7 +79,7 @@ meanings =
     ∷ (ascii "{1 2 3}" means setOne)
     ∷ (ascii "{1 2 3.}" means setOne)
     ∷ (ascii "{?0?1?2.1 2?15}"
-      means patternSet (triple (aVariable 0) (aVariable 1) (aVariable 2) ∷ triple (aTerm 1) (aTerm 2) (aVariable 15) ∷ []))
+    means patternSet (triple (aVariable 0) (aVariable 1) (aVariable 2) ∷ triple (aTerm 1) (aTerm 2) (aVariable 15) ∷ []))
     ∷ (ascii "{1048575 1 1048575}" means patternSet (triple (aTerm 1048575) (aTerm 1) (aTerm 1048575) ∷ []))
     -- filters, projections and bounds do not end a set, braces do
     ∷ (ascii "{1 2 3 FILTER(?0=?1) 4 5 6}" means filter (same 0 1) (patternSet (one ∷ two ∷ [])))
@@ -91,7 +90,7 @@ meanings =
     ∷ (ascii "{" ++ (ones 15 ++ ascii "}") means patternSet (replicate 15 one))
     ∷ (ascii "{" ++ (ones 15 ++ ascii "4 5 6}") means join (patternSet (replicate 15 one)) setTwo)
     ∷ (ascii "{" ++ (ones 8 ++ (ascii "TRUST AS ?0 " ++ (ones 8 ++ ascii "4 5 6}")))
-      means projectTrust 0 (join (patternSet (replicate 15 one)) (patternSet (one ∷ two ∷ []))))
+    means projectTrust 0 (join (patternSet (replicate 15 one)) (patternSet (one ∷ two ∷ []))))
     -- joins from the left; the empty set is dropped from them, on either side and at every depth
     ∷ (ascii "{{1 2 3}{4 5 6}{1 2 3}}" means join (join setOne setTwo) setOne)
     ∷ (ascii "{{}{1 2 3}}" means setOne)
@@ -102,17 +101,18 @@ meanings =
     ∷ (ascii "{FILTER(BOUND(?0))}" means filter (bound 0) nothing)
     -- an OPTIONAL is left-joined to all before it, and its own filters are the condition
     ∷ (ascii "{1 2 3 OPTIONAL{4 5 6 FILTER(BOUND(?0)) FILTER(?1<?2)} 4 5 6}"
-      means join (leftJoin (conjunction (bound 0) (less 1 2)) setOne setTwo) setTwo)
+    means join (leftJoin (conjunction (bound 0) (less 1 2)) setOne setTwo) setTwo)
     ∷ (ascii "{OPTIONAL{{1 2 3 FILTER(BOUND(?0))}}}" means leftJoin always nothing (filter (bound 0) setOne))
     ∷ (ascii "{OPTIONAL{1 2 3 ENSURE TRUST (5, -5)}}" means leftJoin always nothing (ensureTrust 1005 995 setOne))
     -- projections, then bounds, then filters, each in text order
     ∷ (ascii "{FILTER(?0=7)ENSURE TRUST(-1000,1000)TRUST AS?3 1 2 3 ENSURE TRUST(1,2)TRUST AS?4 FILTER(?0=8)}"
-      means filter (conjunction (isTerm 0 7) (isTerm 0 8)) (ensureTrust 1001 1002 (ensureTrust 0 2000 (projectTrust 4 (projectTrust 3 setOne)))))
+    means filter (conjunction (isTerm 0 7) (isTerm 0 8))
+    (ensureTrust 1001 1002 (ensureTrust 0 2000 (projectTrust 4 (projectTrust 3 setOne)))))
     -- ! before &&, && before ||, both from the left
     ∷ (ascii "{FILTER(!BOUND(?0)&&BOUND(?1)&&BOUND(?2))}"
-      means filter (conjunction (conjunction (negation (bound 0)) (bound 1)) (bound 2)) nothing)
+    means filter (conjunction (conjunction (negation (bound 0)) (bound 1)) (bound 2)) nothing)
     ∷ (ascii "{FILTER(?0=7||?1=?2&&?3<?4||!!(?5<?6))}"
-      means filter (disjunction (disjunction (isTerm 0 7) (conjunction (same 1 2) (less 3 4))) (negation (negation (less 5 6)))) nothing)
+    means filter (disjunction (disjunction (isTerm 0 7) (conjunction (same 1 2) (less 3 4))) (negation (negation (less 5 6)))) nothing)
     ∷ (ascii "{FILTER((BOUND(?0)||BOUND(?1))&&(BOUND(?2)))}" means filter (conjunction (disjunction (bound 0) (bound 1)) (bound 2)) nothing)
     ∷ []
 

@@ -1,9 +1,9 @@
 -- Where the machine stops: up to the place of a fault some text goes on, and with one byte more none. Groups: every state can be finished
 -- (`finishes`); the place of a fault (`faults`). Assumes nothing.
 use mathlib.Core.Path.{_≡_, refl, sym, _∙_, subst}
-use mathlib.Core.Bool.{Bool, true, false}
+use mathlib.Core.Bool.{Bool, true}
 use mathlib.Core.List.{List, [], _∷_, _++_, List·Memᴰ}
-use mathlib.Core.Option.{Option, some}
+use mathlib.Core.Option.{some}
 use Prim.Native.Nat.{ℕ, suc, _+_, _≤_, _<_}
 use native.Mathlib.Omega.{arith}
 use lib.ListN.{length, take}
@@ -14,7 +14,7 @@ use Rattle.grammar.specs.Automaton.{sPrimary, sNegatable, sRelation, sTa
 use Rattle.grammar.specs.Automaton.{marks, vars, tokenOf, State, gap, inMark, first, inNumber, Move, stop, go, step}
 use Rattle.grammar.specs.Automaton.{Outcome, accepted, fault, after, finish, run}
 use Rattle.grammar.proofs.Accepts.{byMark, byVar, byPlus, Accepts, over, then, at0, at1, at2}
-use Rattle.grammar.proofs.Numerals.{Numeral, numeral, numeral-decimal}
+use Rattle.grammar.proofs.Numerals.{Numeral, numeral}
 use Rattle.grammar.proofs.Numerals as N
 use Rattle.grammar.proofs.Lexing.{Rest, Good, ended, spelled, Back, back, follow, forth}
 

@@ -79,8 +79,8 @@ ended u v k σ ts s h x y =
     }
 
 -- a token by its bytes, digit by digit
-pub spelled : {a : Bool} {ts : List Token} {s : List ℕ} (t : Token) (u r : List ℕ) → (a && isWordOrNumber t) ≡ false → Spells t u → s ≡ u ++ r
-    → Written (endsWord t) ts r → Written a (t ∷ ts) s
+pub spelled : {a : Bool} {ts : List Token} {s : List ℕ} (t : Token) (u r : List ℕ) → (a && isWordOrNumber t) ≡ false → Spells t u
+    → s ≡ u ++ r → Written (endsWord t) ts r → Written a (t ∷ ts) s
 spelled t u r h sp q w = token t r h (q ∙ ap (λ (l : List ℕ). l ++ r) (spells-spelling sp)) w
 
 -- ---- tests

@@ -1,9 +1,9 @@
--- The tokens of a tree have the tree's meaning, so a text has one meaning. Groups: slots, bounds and fixed tokens; conditions; groups; texts.
--- Assumes nothing.
+-- The tokens of a tree have the tree's meaning, so a text has one meaning. Groups: slots, bounds and fixed tokens; conditions; groups;
+-- texts. Assumes nothing.
 use mathlib.Core.Path.{_≡_, refl, sym, ap, _∙_, subst}
 use mathlib.Core.Bool.{Bool, true, false}
-use mathlib.Core.List.{List, [], _∷_, _++_}
-use mathlib.Core.Option.{Option, none, some, Option·some-injective}
+use mathlib.Core.List.{List, [], _∷_}
+use mathlib.Core.Option.{none, some, Option·some-injective}
 use Prim.Native.Nat.{ℕ}
 use Rattle.tsparql.specs.Strikes.{ascii}
 use Rattle.tsparql.specs.Query.{Condition, Node, union}
@@ -22,68 +22,62 @@ use Rattle.grammar.specs.Meaning.{slotOf, valueOf, disjunctionOf, conjun
 use Rattle.grammar.specs.Meaning.{Item, aTriple, aGroup, aFilter, aProjection, aBound}
 use Rattle.grammar.specs.Meaning.{groupNode, optionalItem, items, itemOf, united, meaning}
 use Rattle.grammar.specs.Automaton.{Symbol, sBody, sAfterTriple, sAfterElement, sAfterGroup, sSlot, sVar, sBound}
-use Rattle.grammar.specs.Automaton.{sPrimary, sNegatable, sRelation, sTail, sLBrace, sLParen, sRParen, sComma, sAS, sTRUST, read}
+use Rattle.grammar.specs.Automaton.{sPrimary, sNegatable, sTail, sLBrace, sLParen, sRParen, sComma, sAS, sTRUST}
 use Rattle.grammar.specs.TokenMeaning.{Value, Values, alone, semantics, nodeOf, textNode}
 use Rattle.grammar.proofs.Reading.{read-derives}
 
 -- ---- slots, bounds, fixed tokens
 
--- ts reads as the values vs of σ
+-- ts reads as the values vs of the stack σ
 record Reads (ts : List Token) (σ : List Symbol) (vs : Values σ) : Type 0 where
   says : semantics ts σ ≡ some vs
 
-sem-slot : (s : Slot) {σ : List Symbol} {vs : Values σ} {k : List Token} → Reads k σ vs → Reads (slotToken s ∷ k) (sSlot ∷ σ) (slotOf s, vs)
-unfolding semantics ascii
-sem-slot (term t) h = record { says = rw (h .says) }
-sem-slot (variable v) h = record { says = rw (h .says) }
+reads-nil : Reads [] [] tt
+unfolding semantics
+reads-nil = record { says = refl }
 
-sem-var : (v : Variable) {σ : List Symbol} {vs : Values σ} {k : List Token} → Reads k σ vs → Reads (variableToken v ∷ k) (sVar ∷ σ) (v .name, vs)
-unfolding semantics ascii
-sem-var v h = record { says = rw (h .says) }
+module _ {σ : List Symbol} {vs : Values σ} {ts : List Token} where
+  reads-slot : (s : Slot) → Reads ts σ vs → Reads (slotToken s ∷ ts) (sSlot ∷ σ) (slotOf s, vs)
+  unfolding semantics
+  reads-slot (term t) h = record { says = rw (h .says) }
+  reads-slot (variable v) h = record { says = rw (h .says) }
 
-sem-bound : (x : Thousandths) {σ : List Symbol} {vs : Values σ} {k : List Token} → Reads k σ vs → Reads (thousandthsToken x ∷ k) (sBound ∷ σ) (valueOf x, vs)
-unfolding semantics ascii
-sem-bound (plus n l) h = record { says = rw (h .says) }
-sem-bound (minus n l m) h = record { says = rw (h .says) }
+  reads-var : (v : Variable) → Reads ts σ vs → Reads (variableToken v ∷ ts) (sVar ∷ σ) (v .name, vs)
+  unfolding semantics
+  reads-var v h = record { says = rw (h .says) }
 
-sem-paren : {σ : List Symbol} {vs : Values σ} {k : List Token} → Reads k σ vs → Reads (mark T.LPAREN ∷ k) (sLParen ∷ σ) (tt, vs)
-unfolding semantics ascii
-sem-paren h = record { says = rw (h .says) }
+  reads-bound : (x : Thousandths) → Reads ts σ vs → Reads (thousandthsToken x ∷ ts) (sBound ∷ σ) (valueOf x, vs)
+  unfolding semantics
+  reads-bound (plus n l) h = record { says = rw (h .says) }
+  reads-bound (minus n l m) h = record { says = rw (h .says) }
 
-sem-unparen : {σ : List Symbol} {vs : Values σ} {k : List Token} → Reads k σ vs → Reads (mark T.RPAREN ∷ k) (sRParen ∷ σ) (tt, vs)
-unfolding semantics ascii
-sem-unparen h = record { says = rw (h .says) }
+  reads-LBRACE : Reads ts σ vs → Reads (mark T.LBRACE ∷ ts) (sLBrace ∷ σ) (tt, vs)
+  unfolding semantics ascii
+  reads-LBRACE h = record { says = rw (h .says) }
 
-sem-comma : {σ : List Symbol} {vs : Values σ} {k : List Token} → Reads k σ vs → Reads (mark T.COMMA ∷ k) (sComma ∷ σ) (tt, vs)
-unfolding semantics ascii
-sem-comma h = record { says = rw (h .says) }
+  reads-LPAREN : Reads ts σ vs → Reads (mark T.LPAREN ∷ ts) (sLParen ∷ σ) (tt, vs)
+  unfolding semantics ascii
+  reads-LPAREN h = record { says = rw (h .says) }
 
-sem-brace : {σ : List Symbol} {vs : Values σ} {k : List Token} → Reads k σ vs → Reads (mark T.LBRACE ∷ k) (sLBrace ∷ σ) (tt, vs)
-unfolding semantics ascii
-sem-brace h = record { says = rw (h .says) }
+  reads-RPAREN : Reads ts σ vs → Reads (mark T.RPAREN ∷ ts) (sRParen ∷ σ) (tt, vs)
+  unfolding semantics ascii
+  reads-RPAREN h = record { says = rw (h .says) }
 
-sem-as : {σ : List Symbol} {vs : Values σ} {k : List Token} → Reads k σ vs → Reads (mark T.AS ∷ k) (sAS ∷ σ) (tt, vs)
-unfolding semantics ascii
-sem-as h = record { says = rw (h .says) }
+  reads-COMMA : Reads ts σ vs → Reads (mark T.COMMA ∷ ts) (sComma ∷ σ) (tt, vs)
+  unfolding semantics ascii
+  reads-COMMA h = record { says = rw (h .says) }
 
-sem-trust : {σ : List Symbol} {vs : Values σ} {k : List Token} → Reads k σ vs → Reads (mark T.TRUST ∷ k) (sTRUST ∷ σ) (tt, vs)
-unfolding semantics ascii
-sem-trust h = record { says = rw (h .says) }
+  reads-AS : Reads ts σ vs → Reads (mark T.AS ∷ ts) (sAS ∷ σ) (tt, vs)
+  unfolding semantics ascii
+  reads-AS h = record { says = rw (h .says) }
 
-sem-equal : (v : Variable) (s : Slot) {σ : List Symbol} {vs : Values σ} {k : List Token} → Reads k σ vs → Reads (primary (equal v s) k) (sPrimary ∷ σ) (primaryOf (equal v s), vs)
-unfolding semantics ascii primaryOf
-sem-equal v (term t) h = record { says = rw (h .says) }
-sem-equal v (variable w) h = record { says = rw (h .says) }
+  reads-TRUST : Reads ts σ vs → Reads (mark T.TRUST ∷ ts) (sTRUST ∷ σ) (tt, vs)
+  unfolding semantics ascii
+  reads-TRUST h = record { says = rw (h .says) }
 
-sem-less : (v w : Variable) {σ : List Symbol} {vs : Values σ} {k : List Token} → Reads k σ vs → Reads (primary (less v w) k) (sPrimary ∷ σ) (primaryOf (less v w), vs)
-unfolding semantics ascii primaryOf
-sem-less v w h = record { says = rw (h .says) }
+-- ---- conditions
 
-sem-BOUND : (v : Variable) {σ : List Symbol} {vs : Values σ} {k : List Token} → Reads k σ vs → Reads (negated (bound v) k) (sNegatable ∷ σ) (negatableOf (bound v), vs)
-unfolding semantics ascii negatableOf
-sem-BOUND v h = record { says = rw (h .says) }
-
--- what is joined by or before the last conjunction, and that conjunction
+-- what or joins before the last conjunction, and that conjunction
 before : Disjunction → Condition → Condition
 before (conjuncts c) x = x
 before (either d c) x = Q.disjunction (disjunctionOf d) x
@@ -97,77 +91,6 @@ unfolding before last disjunctionOf
 before-last (conjuncts c) = refl
 before-last (either d c) = refl
 
-as-primary : (n : Negatable) {σ : List Symbol} {vs : Values σ} {c : Condition} (k : List Token) → Reads (negated n k) (sNegatable ∷ σ) (c, vs) → Reads (negated n k) (sPrimary ∷ σ) (c, vs)
-unfolding semantics ascii
-as-primary (bound v) k h = record { says = h .says }
-as-primary (not n) k h = record { says = h .says }
-as-primary (parens d) k h = record { says = h .says }
-
--- the values that a condition's tokens leave: a primary and a tail
-record Conj (σ : List Symbol) (ts : List Token) (vs : Values σ) (tl : Value sTail) (c : Condition) : Type 0 where
-  first : Condition
-  tail : Value sTail
-  reads : Reads ts (sPrimary ∷ sTail ∷ σ) (first, (tail, vs))
-  means : (f : Condition → Condition) → tail f first ≡ tl f c
-
-record Disj (σ : List Symbol) (ts : List Token) (vs : Values σ) (tl : Value sTail) (d : Disjunction) : Type 0 where
-  first : Condition
-  tail : Value sTail
-  reads : Reads ts (sPrimary ∷ sTail ∷ σ) (first, (tail, vs))
-  means : tail alone first ≡ tl (before d) (last d)
-
-sem-and : {σ : List Symbol} {vs : Values σ} {ts : List Token} {c : Condition} {tl : Value sTail} → Reads ts (sPrimary ∷ sTail ∷ σ) (c, (tl, vs))
-    → Reads (mark T.AND ∷ ts) (sTail ∷ σ) ((λ f x. tl f (Q.conjunction x c)), vs)
-unfolding semantics ascii
-sem-and h = record { says = rw (h .says) }
-
-sem-or : {σ : List Symbol} {vs : Values σ} {ts : List Token} {c : Condition} {tl : Value sTail} → Reads ts (sPrimary ∷ sTail ∷ σ) (c, (tl, vs))
-    → Reads (mark T.OR ∷ ts) (sTail ∷ σ) ((λ f x. tl (Q.disjunction (f x)) c), vs)
-unfolding semantics ascii
-sem-or h = record { says = rw (h .says) }
-
-sem-parens : {σ : List Symbol} {vs : Values σ} {ts : List Token} {c : Condition} {tl : Value sTail} → Reads ts (sPrimary ∷ sTail ∷ σ) (c, (tl, vs))
-    → Reads (mark T.LPAREN ∷ ts) (sNegatable ∷ σ) (tl alone c, vs)
-unfolding semantics ascii
-sem-parens h = record { says = rw (h .says) }
-
-sem-close : {σ : List Symbol} {vs : Values σ} {k : List Token} → Reads k σ vs
-    → Reads (mark T.RPAREN ∷ k) (sTail ∷ σ) ((λ f c. f c), vs)
-unfolding semantics ascii
-sem-close h = record { says = rw (h .says) }
-
-sem-not : {σ : List Symbol} {vs : Values σ} {ts : List Token} {c : Condition} → Reads ts (sNegatable ∷ σ) (c, vs)
-    → Reads (mark T.NOT ∷ ts) (sNegatable ∷ σ) (Q.negation c, vs)
-unfolding semantics ascii
-sem-not h = record { says = rw (h .says) }
-
-disj-one : {σ : List Symbol} {ts : List Token} {vs : Values σ} {tl : Value sTail} (c : Conjunction) → Conj σ ts vs tl (conjunctionOf c) → Disj σ ts vs tl (conjuncts c)
-unfolding before last
-disj-one c r = record { first = r .first; tail = r .tail; reads = r .reads; means = r .means alone }
-
-disj-more : {σ : List Symbol} {ts us : List Token} {vs : Values σ} {tl : Value sTail} (d : Disjunction) (c : Conjunction) (r : Conj σ us vs tl (conjunctionOf c))
-    → Disj σ ts vs (λ f x. r .tail (Q.disjunction (f x)) (r .first)) d → Disj σ ts vs tl (either d c)
-unfolding before last
-disj-more {tl = tl} d c r s =
-    record {
-      first = s .first;
-      tail = s .tail;
-      reads = s .reads;
-      means = s .means ∙ r .means (Q.disjunction (before d (last d))) ∙ ap (λ (x : Condition). tl (Q.disjunction x) (conjunctionOf c)) (before-last d);
-    }
-
-cast : {ts : List Token} {σ : List Symbol} {vs : Values σ} {X : Symbol} {x y : Value X} → Reads ts (X ∷ σ) (x, vs) → x ≡ y → Reads ts (X ∷ σ) (y, vs)
-cast {ts} {σ} {vs} {X} h e = subst (λ (z : Value X). Reads ts (X ∷ σ) (z, vs)) e h
-
-conj-more : {σ : List Symbol} {ts : List Token} {vs : Values σ} {tl : Value sTail} (c : Conjunction) (p : Primary)
-    → Conj σ ts vs (λ f x. tl f (Q.conjunction x (primaryOf p))) (conjunctionOf c) → Conj σ ts vs tl (conjunctionOf (both c p))
-unfolding conjunctionOf
-conj-more c p r = record { first = r .first; tail = r .tail; reads = r .reads; means = r .means }
-
-conj-one : {σ : List Symbol} {ts : List Token} {vs : Values σ} {tl : Value sTail} (p : Primary) → Reads ts (sPrimary ∷ sTail ∷ σ) (primaryOf p, (tl, vs)) → Conj σ ts vs tl (conjunctionOf (single p))
-unfolding conjunctionOf
-conj-one {tl = tl} p h = record { first = primaryOf p; tail = tl; reads = h; means = λ f. refl }
-
 primary-negatable : (n : Negatable) → negatableOf n ≡ primaryOf (negatable n)
 unfolding primaryOf
 primary-negatable n = refl
@@ -180,130 +103,240 @@ negatable-parens : (d : Disjunction) → disjunctionOf d ≡ negatableOf (parens
 unfolding negatableOf
 negatable-parens d = refl
 
+module _ {σ : List Symbol} {vs : Values σ} {ts : List Token} where
+  recast : {X : Symbol} {x y : Value X} → Reads ts (X ∷ σ) (x, vs) → x ≡ y → Reads ts (X ∷ σ) (y, vs)
+  recast {X} h e = subst (λ (z : Value X). Reads ts (X ∷ σ) (z, vs)) e h
+
+  reads-equal : (v : Variable) (s : Slot) → Reads ts σ vs → Reads (primary (equal v s) ts) (sPrimary ∷ σ) (primaryOf (equal v s), vs)
+  unfolding semantics ascii primaryOf
+  reads-equal v (term t) h = record { says = rw (h .says) }
+  reads-equal v (variable w) h = record { says = rw (h .says) }
+
+  reads-less : (v w : Variable) → Reads ts σ vs → Reads (primary (less v w) ts) (sPrimary ∷ σ) (primaryOf (less v w), vs)
+  unfolding semantics ascii primaryOf
+  reads-less v w h = record { says = rw (h .says) }
+
+  reads-BOUND : (v : Variable) → Reads ts σ vs → Reads (negated (bound v) ts) (sNegatable ∷ σ) (negatableOf (bound v), vs)
+  unfolding semantics ascii negatableOf
+  reads-BOUND v h = record { says = rw (h .says) }
+
+  reads-NOT : {c : Condition} → Reads ts (sNegatable ∷ σ) (c, vs) → Reads (mark T.NOT ∷ ts) (sNegatable ∷ σ) (Q.negation c, vs)
+  unfolding semantics ascii
+  reads-NOT h = record { says = rw (h .says) }
+
+  reads-parens : {c : Condition} {f : Value sTail} → Reads ts (sPrimary ∷ sTail ∷ σ) (c, (f, vs))
+      → Reads (mark T.LPAREN ∷ ts) (sNegatable ∷ σ) (f alone c, vs)
+  unfolding semantics ascii
+  reads-parens h = record { says = rw (h .says) }
+
+  -- tails: after a condition and, or, a closing parenthesis
+  reads-AND : {c : Condition} {f : Value sTail} → Reads ts (sPrimary ∷ sTail ∷ σ) (c, (f, vs))
+      → Reads (mark T.AND ∷ ts) (sTail ∷ σ) ((λ g x. f g (Q.conjunction x c)), vs)
+  unfolding semantics ascii
+  reads-AND h = record { says = rw (h .says) }
+
+  reads-OR : {c : Condition} {f : Value sTail} → Reads ts (sPrimary ∷ sTail ∷ σ) (c, (f, vs))
+      → Reads (mark T.OR ∷ ts) (sTail ∷ σ) ((λ g x. f (Q.disjunction (g x)) c), vs)
+  unfolding semantics ascii
+  reads-OR h = record { says = rw (h .says) }
+
+  reads-closed : Reads ts σ vs → Reads (mark T.RPAREN ∷ ts) (sTail ∷ σ) ((λ g x. g x), vs)
+  unfolding semantics ascii
+  reads-closed h = record { says = rw (h .says) }
+
+as-primary : {σ : List Symbol} {vs : Values σ} (ts : List Token) (n : Negatable) {c : Condition}
+    → Reads (negated n ts) (sNegatable ∷ σ) (c, vs) → Reads (negated n ts) (sPrimary ∷ σ) (c, vs)
+unfolding semantics ascii
+as-primary ts (bound v) h = record { says = h .says }
+as-primary ts (not n) h = record { says = h .says }
+as-primary ts (parens d) h = record { says = h .says }
+
+-- ts reads as a primary and a tail, which together mean c, and a tail f after it
+record ReadsConjunction (σ : List Symbol) (ts : List Token) (vs : Values σ) (f : Value sTail) (c : Condition) : Type 0 where
+  first : Condition
+  tail : Value sTail
+  reads : Reads ts (sPrimary ∷ sTail ∷ σ) (first, (tail, vs))
+  means : (g : Condition → Condition) → tail g first ≡ f g c
+
+-- the same for d
+record ReadsDisjunction (σ : List Symbol) (ts : List Token) (vs : Values σ) (f : Value sTail) (d : Disjunction) : Type 0 where
+  first : Condition
+  tail : Value sTail
+  reads : Reads ts (sPrimary ∷ sTail ∷ σ) (first, (tail, vs))
+  means : tail alone first ≡ f (before d) (last d)
+
+module _ {σ : List Symbol} {vs : Values σ} {ts : List Token} {f : Value sTail} where
+  conjunction-single : (p : Primary) → Reads ts (sPrimary ∷ sTail ∷ σ) (primaryOf p, (f, vs))
+      → ReadsConjunction σ ts vs f (conjunctionOf (single p))
+  unfolding conjunctionOf
+  conjunction-single p h = record { first = primaryOf p; tail = f; reads = h; means = λ g. refl }
+
+  conjunction-both : (c : Conjunction) (p : Primary)
+      → ReadsConjunction σ ts vs (λ g x. f g (Q.conjunction x (primaryOf p))) (conjunctionOf c)
+      → ReadsConjunction σ ts vs f (conjunctionOf (both c p))
+  unfolding conjunctionOf
+  conjunction-both c p r = record { first = r .first; tail = r .tail; reads = r .reads; means = r .means }
+
+  disjunction-conjuncts : (c : Conjunction) → ReadsConjunction σ ts vs f (conjunctionOf c) → ReadsDisjunction σ ts vs f (conjuncts c)
+  unfolding before last
+  disjunction-conjuncts c r = record { first = r .first; tail = r .tail; reads = r .reads; means = r .means alone }
+
+  disjunction-either : {us : List Token} (d : Disjunction) (c : Conjunction) (r : ReadsConjunction σ us vs f (conjunctionOf c))
+      → ReadsDisjunction σ ts vs (λ g x. r .tail (Q.disjunction (g x)) (r .first)) d → ReadsDisjunction σ ts vs f (either d c)
+  unfolding before last
+  disjunction-either d c r s =
+      record {
+        first = s .first;
+        tail = s .tail;
+        reads = s .reads;
+        means =
+            s .means ∙ r .means (Q.disjunction (before d (last d)))
+            ∙ ap (λ (x : Condition). f (Q.disjunction x) (conjunctionOf c)) (before-last d);
+      }
+
 mutual
-  sem-disj : (d : Disjunction) {σ : List Symbol} {vs : Values σ} {k : List Token} {tl : Value sTail} → Reads k (sTail ∷ σ) (tl, vs) → Disj σ (disjunction d k) vs tl d
-  sem-disj (conjuncts c) h = disj-one c (sem-conj c h)
-  sem-disj (either d c) h = let r = sem-conj c h in disj-more d c r (sem-disj d (sem-or (r .reads)))
+  reads-disjunction : (d : Disjunction) {σ : List Symbol} {vs : Values σ} {ts : List Token} {f : Value sTail}
+      → Reads ts (sTail ∷ σ) (f, vs) → ReadsDisjunction σ (disjunction d ts) vs f d
+  reads-disjunction (conjuncts c) h = disjunction-conjuncts c (reads-conjunction c h)
+  reads-disjunction (either d c) h =
+      let r = reads-conjunction c h in
+      disjunction-either d c r (reads-disjunction d (reads-OR (r .reads)))
 
-  sem-conj : (c : Conjunction) {σ : List Symbol} {vs : Values σ} {k : List Token} {tl : Value sTail} → Reads k (sTail ∷ σ) (tl, vs) → Conj σ (conjunction c k) vs tl (conjunctionOf c)
-  sem-conj (single p) h = conj-one p (sem-primary p h)
-  sem-conj (both c p) h = conj-more c p (sem-conj c (sem-and (sem-primary p h)))
+  reads-conjunction : (c : Conjunction) {σ : List Symbol} {vs : Values σ} {ts : List Token} {f : Value sTail}
+      → Reads ts (sTail ∷ σ) (f, vs) → ReadsConjunction σ (conjunction c ts) vs f (conjunctionOf c)
+  reads-conjunction (single p) h = conjunction-single p (reads-primary p h)
+  reads-conjunction (both c p) h = conjunction-both c p (reads-conjunction c (reads-AND (reads-primary p h)))
 
-  sem-primary : (p : Primary) {σ : List Symbol} {vs : Values σ} {k : List Token} → Reads k σ vs → Reads (primary p k) (sPrimary ∷ σ) (primaryOf p, vs)
-  sem-primary (negatable n) {k = k} h = cast (as-primary n k (sem-neg n h)) (primary-negatable n)
-  sem-primary (equal v s) h = sem-equal v s h
-  sem-primary (less v w) h = sem-less v w h
+  reads-primary : (p : Primary) {σ : List Symbol} {vs : Values σ} {ts : List Token}
+      → Reads ts σ vs → Reads (primary p ts) (sPrimary ∷ σ) (primaryOf p, vs)
+  reads-primary (negatable n) {ts = ts} h = recast (as-primary ts n (reads-negatable n h)) (primary-negatable n)
+  reads-primary (equal v s) h = reads-equal v s h
+  reads-primary (less v w) h = reads-less v w h
 
-  sem-neg : (n : Negatable) {σ : List Symbol} {vs : Values σ} {k : List Token} → Reads k σ vs → Reads (negated n k) (sNegatable ∷ σ) (negatableOf n, vs)
-  sem-neg (bound v) h = sem-BOUND v h
-  sem-neg (not n) h = cast (sem-not (sem-neg n h)) (negatable-not n)
-  sem-neg (parens d) h = let r = sem-disj d (sem-close h) in cast (sem-parens (r .reads)) (r .means ∙ before-last d ∙ negatable-parens d)
+  reads-negatable : (n : Negatable) {σ : List Symbol} {vs : Values σ} {ts : List Token}
+      → Reads ts σ vs → Reads (negated n ts) (sNegatable ∷ σ) (negatableOf n, vs)
+  reads-negatable (bound v) h = reads-BOUND v h
+  reads-negatable (not n) h = recast (reads-NOT (reads-negatable n h)) (negatable-not n)
+  reads-negatable (parens d) h =
+      let r = reads-disjunction d (reads-closed h) in
+      recast (reads-parens (r .reads)) (r .means ∙ before-last d ∙ negatable-parens d)
 
 -- ---- groups
 
--- where a body may stand
+-- where a body may stand: after a brace or a dot, after an element, after a group, after a triple
 data Place : Bool → Type 0 where
   atBody atElement atGroup : Place true
   atTriple : Place false
 
-abbrev ReadsAt : {m : Bool} → Place m → List Token → (σ : List Symbol) → List Item → Values σ → Type 0
-ReadsAt atBody ts σ is vs = Reads ts (sBody ∷ σ) (is, vs)
-ReadsAt atElement ts σ is vs = Reads ts (sAfterElement ∷ σ) (is, vs)
-ReadsAt atGroup ts σ is vs = Reads ts (sAfterGroup ∷ σ) ((λ n. aGroup n ∷ is), vs)
-ReadsAt atTriple ts σ is vs = Reads ts (sAfterTriple ∷ σ) (is, vs)
+abbrev symbolAt : {a : Bool} → Place a → Symbol
+symbolAt atBody = sBody
+symbolAt atElement = sAfterElement
+symbolAt atGroup = sAfterGroup
+symbolAt atTriple = sAfterTriple
 
-sem-end : {m : Bool} (P : Place m) {σ : List Symbol} {vs : Values σ} {ts : List Token} → Reads ts σ vs
-    → ReadsAt P (mark T.RBRACE ∷ ts) σ ([]) vs
-unfolding semantics ascii
-sem-end atBody h = record { says = rw (h .says) }
-sem-end atElement h = record { says = rw (h .says) }
-sem-end atGroup h = record { says = rw (h .says) }
-sem-end atTriple h = record { says = rw (h .says) }
+-- the value of a body's items there
+abbrev valueAt : {a : Bool} (P : Place a) → List Item → Value (symbolAt P)
+valueAt atBody is = is
+valueAt atElement is = is
+valueAt atGroup is = λ n. aGroup n ∷ is
+valueAt atTriple is = is
 
-sem-dot : {σ : List Symbol} {vs : Values σ} {ts : List Token} {is : List Item} → Reads ts (sBody ∷ σ) (is, vs) → Reads (mark T.DOT ∷ ts) (sAfterElement ∷ σ) (is, vs)
-unfolding semantics ascii
-sem-dot h = record { says = rw (h .says) }
+abbrev ReadsAt : {a : Bool} → Place a → List Token → (σ : List Symbol) → List Item → Values σ → Type 0
+ReadsAt P ts σ is vs = Reads ts (symbolAt P ∷ σ) (valueAt P is, vs)
 
-sem-dot-triple : {σ : List Symbol} {vs : Values σ} {ts : List Token} {is : List Item} → Reads ts (sBody ∷ σ) (is, vs) → Reads (mark T.DOT ∷ ts) (sAfterTriple ∷ σ) (is, vs)
-unfolding semantics ascii
-sem-dot-triple h = record { says = rw (h .says) }
+module _ {σ : List Symbol} {vs : Values σ} {ts : List Token} where
+  reads-end : {a : Bool} (P : Place a) → Reads ts σ vs → ReadsAt P (mark T.RBRACE ∷ ts) σ ([]) vs
+  unfolding semantics ascii
+  reads-end atBody h = record { says = rw (h .says) }
+  reads-end atElement h = record { says = rw (h .says) }
+  reads-end atGroup h = record { says = rw (h .says) }
+  reads-end atTriple h = record { says = rw (h .says) }
 
-sem-triple : (P : Place true) (x : Slot) {σ : List Symbol} {vs : Values σ} {ts : List Token} {y z : Q.Slot} {is : List Item} → Reads ts (sSlot ∷ sSlot ∷ sAfterTriple ∷ σ) (y, (z, (is, vs)))
-    → ReadsAt P (slotToken x ∷ ts) σ (aTriple (record { subject = slotOf x; predicate = y; object = z }) ∷ is) vs
-unfolding semantics ascii
-sem-triple atBody (term t) h = record { says = rw (h .says) }
-sem-triple atBody (variable v) h = record { says = rw (h .says) }
-sem-triple atElement (term t) h = record { says = rw (h .says) }
-sem-triple atElement (variable v) h = record { says = rw (h .says) }
-sem-triple atGroup (term t) h = record { says = rw (h .says) }
-sem-triple atGroup (variable v) h = record { says = rw (h .says) }
+module _ {σ : List Symbol} {vs : Values σ} {ts : List Token} {is : List Item} where
+  dot-element : Reads ts (sBody ∷ σ) (is, vs) → Reads (mark T.DOT ∷ ts) (sAfterElement ∷ σ) (is, vs)
+  unfolding semantics ascii
+  dot-element h = record { says = rw (h .says) }
 
-sem-groups : {m : Bool} (P : Place m) {σ : List Symbol} {vs : Values σ} {ts : List Token} {is : List Item} {f : Node → List Item} → Reads ts (sBody ∷ sAfterGroup ∷ σ) (is, (f, vs))
-    → ReadsAt P (mark T.LBRACE ∷ ts) σ (f (groupNode is)) vs
-unfolding semantics ascii
-sem-groups atBody h = record { says = rw (h .says) }
-sem-groups atElement h = record { says = rw (h .says) }
-sem-groups atGroup h = record { says = rw (h .says) }
-sem-groups atTriple h = record { says = rw (h .says) }
+  dot-triple : Reads ts (sBody ∷ σ) (is, vs) → Reads (mark T.DOT ∷ ts) (sAfterTriple ∷ σ) (is, vs)
+  unfolding semantics ascii
+  dot-triple h = record { says = rw (h .says) }
 
-sem-optional : {m : Bool} (P : Place m) {σ : List Symbol} {vs : Values σ} {ts : List Token} {is js : List Item} → Reads ts (sLBrace ∷ sBody ∷ sAfterElement ∷ σ) (tt, (is, (js, vs)))
-    → ReadsAt P (mark T.OPTIONAL ∷ ts) σ (optionalItem is ∷ js) vs
-unfolding semantics ascii
-sem-optional atBody h = record { says = rw (h .says) }
-sem-optional atElement h = record { says = rw (h .says) }
-sem-optional atGroup h = record { says = rw (h .says) }
-sem-optional atTriple h = record { says = rw (h .says) }
+  dot-group : Reads ts (sBody ∷ σ) (is, vs) → Reads (mark T.DOT ∷ ts) (sAfterGroup ∷ σ) ((λ n. aGroup n ∷ is), vs)
+  unfolding semantics ascii
+  dot-group h = record { says = rw (h .says) }
 
-sem-filter : {m : Bool} (P : Place m) {σ : List Symbol} {vs : Values σ} {ts : List Token} {c : Condition} {tl : Value sTail} {js : List Item} → Reads ts (sLParen ∷ sPrimary ∷ sTail ∷ sAfterElement ∷ σ) (tt, (c, (tl, (js, vs))))
-    → ReadsAt P (mark T.FILTER ∷ ts) σ (aFilter (tl alone c) ∷ js) vs
-unfolding semantics ascii
-sem-filter atBody h = record { says = rw (h .says) }
-sem-filter atElement h = record { says = rw (h .says) }
-sem-filter atGroup h = record { says = rw (h .says) }
-sem-filter atTriple h = record { says = rw (h .says) }
+  reads-triple : (P : Place true) (x : Slot) {y z : Q.Slot} → Reads ts (sSlot ∷ sSlot ∷ sAfterTriple ∷ σ) (y, (z, (is, vs)))
+      → ReadsAt P (slotToken x ∷ ts) σ (aTriple (record { subject = slotOf x; predicate = y; object = z }) ∷ is) vs
+  unfolding semantics
+  reads-triple atBody (term t) h = record { says = rw (h .says) }
+  reads-triple atBody (variable v) h = record { says = rw (h .says) }
+  reads-triple atElement (term t) h = record { says = rw (h .says) }
+  reads-triple atElement (variable v) h = record { says = rw (h .says) }
+  reads-triple atGroup (term t) h = record { says = rw (h .says) }
+  reads-triple atGroup (variable v) h = record { says = rw (h .says) }
 
-sem-trustAs : {m : Bool} (P : Place m) {σ : List Symbol} {vs : Values σ} {ts : List Token} {v : ℕ} {js : List Item} → Reads ts (sAS ∷ sVar ∷ sAfterElement ∷ σ) (tt, (v, (js, vs)))
-    → ReadsAt P (mark T.TRUST ∷ ts) σ (aProjection v ∷ js) vs
-unfolding semantics ascii
-sem-trustAs atBody h = record { says = rw (h .says) }
-sem-trustAs atElement h = record { says = rw (h .says) }
-sem-trustAs atGroup h = record { says = rw (h .says) }
-sem-trustAs atTriple h = record { says = rw (h .says) }
+  reads-groups : {a : Bool} (P : Place a) {f : Node → List Item} → Reads ts (sBody ∷ sAfterGroup ∷ σ) (is, (f, vs))
+      → ReadsAt P (mark T.LBRACE ∷ ts) σ (f (groupNode is)) vs
+  unfolding semantics ascii
+  reads-groups atBody h = record { says = rw (h .says) }
+  reads-groups atElement h = record { says = rw (h .says) }
+  reads-groups atGroup h = record { says = rw (h .says) }
+  reads-groups atTriple h = record { says = rw (h .says) }
 
-sem-ensure : {m : Bool} (P : Place m) {σ : List Symbol} {vs : Values σ} {ts : List Token} {l u : ℕ} {js : List Item} → Reads ts (sTRUST ∷ sLParen ∷ sBound ∷ sComma ∷ sBound ∷ sRParen ∷ sAfterElement ∷ σ) (tt, (tt, (l, (tt, (u, (tt, (js, vs)))))))
-    → ReadsAt P (mark T.ENSURE ∷ ts) σ (aBound l u ∷ js) vs
-unfolding semantics ascii
-sem-ensure atBody h = record { says = rw (h .says) }
-sem-ensure atElement h = record { says = rw (h .says) }
-sem-ensure atGroup h = record { says = rw (h .says) }
-sem-ensure atTriple h = record { says = rw (h .says) }
+  reads-OPTIONAL : {a : Bool} (P : Place a) {js : List Item} → Reads ts (sLBrace ∷ sBody ∷ sAfterElement ∷ σ) (tt, (js, (is, vs)))
+      → ReadsAt P (mark T.OPTIONAL ∷ ts) σ (optionalItem js ∷ is) vs
+  unfolding semantics ascii
+  reads-OPTIONAL atBody h = record { says = rw (h .says) }
+  reads-OPTIONAL atElement h = record { says = rw (h .says) }
+  reads-OPTIONAL atGroup h = record { says = rw (h .says) }
+  reads-OPTIONAL atTriple h = record { says = rw (h .says) }
 
-sem-union : {σ : List Symbol} {vs : Values σ} {ts : List Token} {is : List Item} {f : Node → List Item} → Reads ts (sLBrace ∷ sBody ∷ sAfterGroup ∷ σ) (tt, (is, (f, vs)))
-    → Reads (mark T.UNION ∷ ts) (sAfterGroup ∷ σ) ((λ n. f (union n (groupNode is))), vs)
-unfolding semantics ascii
-sem-union h = record { says = rw (h .says) }
+  reads-FILTER : {a : Bool} (P : Place a) {c : Condition} {f : Value sTail}
+      → Reads ts (sLParen ∷ sPrimary ∷ sTail ∷ sAfterElement ∷ σ) (tt, (c, (f, (is, vs))))
+      → ReadsAt P (mark T.FILTER ∷ ts) σ (aFilter (f alone c) ∷ is) vs
+  unfolding semantics ascii
+  reads-FILTER atBody h = record { says = rw (h .says) }
+  reads-FILTER atElement h = record { says = rw (h .says) }
+  reads-FILTER atGroup h = record { says = rw (h .says) }
+  reads-FILTER atTriple h = record { says = rw (h .says) }
 
-recast : {m : Bool} (P : Place m) (ts : List Token) (σ : List Symbol) (is js : List Item) (vs : Values σ) → ReadsAt P ts σ is vs → is ≡ js → ReadsAt P ts σ js vs
-recast P ts σ is js vs h e = subst (λ (l : List Item). ReadsAt P ts σ l vs) e h
+  reads-TRUST-AS : {a : Bool} (P : Place a) {v : ℕ} → Reads ts (sAS ∷ sVar ∷ sAfterElement ∷ σ) (tt, (v, (is, vs)))
+      → ReadsAt P (mark T.TRUST ∷ ts) σ (aProjection v ∷ is) vs
+  unfolding semantics ascii
+  reads-TRUST-AS atBody h = record { says = rw (h .says) }
+  reads-TRUST-AS atElement h = record { says = rw (h .says) }
+  reads-TRUST-AS atGroup h = record { says = rw (h .says) }
+  reads-TRUST-AS atTriple h = record { says = rw (h .says) }
 
-record Unioned (ts : List Token) (σ : List Symbol) (is : List Item) (vs : Values σ) (us : Unions) : Type 0 where
+  reads-ENSURE : {a : Bool} (P : Place a) {l u : ℕ}
+      → Reads ts (sTRUST ∷ sLParen ∷ sBound ∷ sComma ∷ sBound ∷ sRParen ∷ sAfterElement ∷ σ) (tt, (tt, (l, (tt, (u, (tt, (is, vs)))))))
+      → ReadsAt P (mark T.ENSURE ∷ ts) σ (aBound l u ∷ is) vs
+  unfolding semantics ascii
+  reads-ENSURE atBody h = record { says = rw (h .says) }
+  reads-ENSURE atElement h = record { says = rw (h .says) }
+  reads-ENSURE atGroup h = record { says = rw (h .says) }
+  reads-ENSURE atTriple h = record { says = rw (h .says) }
+
+  reads-UNION : {f : Node → List Item} → Reads ts (sLBrace ∷ sBody ∷ sAfterGroup ∷ σ) (tt, (is, (f, vs)))
+      → Reads (mark T.UNION ∷ ts) (sAfterGroup ∷ σ) ((λ n. f (union n (groupNode is))), vs)
+  unfolding semantics ascii
+  reads-UNION h = record { says = rw (h .says) }
+
+-- ts reads as the groups us, united with the node before them, and the items after
+record ReadsUnions (ts : List Token) (σ : List Symbol) (is : List Item) (vs : Values σ) (us : Unions) : Type 0 where
   value : Node → List Item
   reads : Reads ts (sAfterGroup ∷ σ) (value, vs)
   means : (n : Node) → value n ≡ aGroup (united n us) ∷ is
 
-union-none : {ts : List Token} {σ : List Symbol} {is : List Item} {vs : Values σ} → Reads ts (sAfterGroup ∷ σ) ((λ n. aGroup n ∷ is), vs) → Unioned ts σ is vs G.none
-unfolding united
-union-none h = record { value = _; reads = h; means = λ n. refl }
+module _ {ts : List Token} {σ : List Symbol} {is : List Item} {vs : Values σ} where
+  unions-none : Reads ts (sAfterGroup ∷ σ) ((λ n. aGroup n ∷ is), vs) → ReadsUnions ts σ is vs G.none
+  unfolding united
+  unions-none h = record { value = _; reads = h; means = λ n. refl }
 
-union-more : {ts us : List Token} {σ : List Symbol} {is js : List Item} {vs : Values σ} (g : Body true) (w : Unions) (r : Unioned us σ is vs w) → items g ≡ js
-    → Reads ts (sAfterGroup ∷ σ) ((λ n. r .value (union n (groupNode js))), vs) → Unioned ts σ is vs (andUnion g w)
-unfolding united
-union-more {is = is} {js = js} g w r e h =
-    record { value = _; reads = h; means = λ n. r .means (union n (groupNode js)) ∙ ap (λ (l : List Item). aGroup (united (union n (groupNode l)) w) ∷ is) (sym e) }
-
-sem-dot-group : {σ : List Symbol} {vs : Values σ} {ts : List Token} {is : List Item} → Reads ts (sBody ∷ σ) (is, vs) → Reads (mark T.DOT ∷ ts) (sAfterGroup ∷ σ) ((λ n. aGroup n ∷ is), vs)
-unfolding semantics ascii
-sem-dot-group h = record { says = rw (h .says) }
+  unions-more : {us : List Token} (g : Body true) (w : Unions) (r : ReadsUnions us σ is vs w)
+      → Reads ts (sAfterGroup ∷ σ) ((λ n. r .value (union n (groupNode (items g)))), vs) → ReadsUnions ts σ is vs (andUnion g w)
+  unfolding united
+  unions-more g w r h = record { value = _; reads = h; means = λ n. r .means (union n (groupNode (items g))) }
 
 -- what follows an element, read after an element and after a group
 record After (ts : List Token) (σ : List Symbol) (is : List Item) (vs : Values σ) : Type 0 where
@@ -313,36 +346,44 @@ record After (ts : List Token) (σ : List Symbol) (is : List Item) (vs : Values 
 mutual
   unfolding items
 
-  sem-body : {m : Bool} (b : Body m) (P : Place m) {σ : List Symbol} {vs : Values σ} {k : List Token} → Reads k σ vs → ReadsAt P (body b k) σ (items b) vs
-  sem-body end P h = sem-end P h
-  sem-body (triple x y z b) P h = sem-triple P x (sem-slot y (sem-slot z (sem-body b atTriple h)))
-  sem-body (tripleDot x y z b) P h = sem-triple P x (sem-slot y (sem-slot z (sem-dot-triple (sem-body b atBody h))))
-  sem-body (element e b) P h = sem-element e P (record { element = sem-body b atElement h; group = sem-body b atGroup h })
-  sem-body (elementDot e b) P h = let r = sem-body b atBody h in sem-element e P (record { element = sem-dot r; group = sem-dot-group r })
+  reads-body : {a : Bool} (b : Body a) (P : Place a) {σ : List Symbol} {vs : Values σ} {ts : List Token}
+      → Reads ts σ vs → ReadsAt P (body b ts) σ (items b) vs
+  reads-body end P h = reads-end P h
+  reads-body (triple x y z b) P h = reads-triple P x (reads-slot y (reads-slot z (reads-body b atTriple h)))
+  reads-body (tripleDot x y z b) P h = reads-triple P x (reads-slot y (reads-slot z (dot-triple (reads-body b atBody h))))
+  reads-body (element e b) P h = reads-element e P (record { element = reads-body b atElement h; group = reads-body b atGroup h })
+  reads-body (elementDot e b) P h =
+      let r = reads-body b atBody h in
+      reads-element e P (record { element = dot-element r; group = dot-group r })
 
-  sem-element : (e : Element) {m : Bool} (P : Place m) {σ : List Symbol} {vs : Values σ} {k : List Token} {is : List Item} → After k σ is vs → ReadsAt P (elementTokens e k) σ (itemOf e ∷ is) vs
-  sem-element (groups g us) P {σ} {vs} h =
-      let r = sem-unions us h in
-      recast P _ σ _ _ vs (sem-groups P (sem-body g atBody (r .reads))) (r .means (groupNode (items g)))
-  sem-element (optional g) P h = sem-optional P (sem-brace (sem-body g atBody (h .element)))
-  sem-element (filter d) P {σ} {vs} {is = is} h =
-      let r = sem-disj d (sem-close (h .element)) in
-      recast P _ σ _ _ vs (sem-filter P (sem-paren (r .reads))) (ap (λ (c : Condition). aFilter c ∷ is) (r .means ∙ before-last d))
-  sem-element (trustAs v) P h = sem-trustAs P (sem-as (sem-var v (h .element)))
-  sem-element (ensure l u) P h = sem-ensure P (sem-trust (sem-paren (sem-bound l (sem-comma (sem-bound u (sem-unparen (h .element)))))))
+  reads-element : (e : Element) {a : Bool} (P : Place a) {σ : List Symbol} {vs : Values σ} {ts : List Token} {is : List Item}
+      → After ts σ is vs → ReadsAt P (elementTokens e ts) σ (itemOf e ∷ is) vs
+  reads-element (groups g us) P h =
+      let r = reads-unions us h in
+      recast (reads-groups P (reads-body g atBody (r .reads))) (ap (valueAt P) (r .means (groupNode (items g))))
+  reads-element (optional g) P h = reads-OPTIONAL P (reads-LBRACE (reads-body g atBody (h .element)))
+  reads-element (filter d) P {is = is} h =
+      let r = reads-disjunction d (reads-closed (h .element)) in
+      recast (reads-FILTER P (reads-LPAREN (r .reads))) (ap (λ (c : Condition). valueAt P (aFilter c ∷ is)) (r .means ∙ before-last d))
+  reads-element (trustAs v) P h = reads-TRUST-AS P (reads-AS (reads-var v (h .element)))
+  reads-element (ensure l u) P h =
+      reads-ENSURE P (reads-TRUST (reads-LPAREN (reads-bound l (reads-COMMA (reads-bound u (reads-RPAREN (h .element)))))))
 
-  sem-unions : (us : Unions) {σ : List Symbol} {vs : Values σ} {k : List Token} {is : List Item} → After k σ is vs → Unioned (unions us k) σ is vs us
-  sem-unions G.none h = union-none (h .group)
-  sem-unions (andUnion g us) h = let r = sem-unions us h in union-more g us r refl (sem-union (sem-brace (sem-body g atBody (r .reads))))
+  reads-unions : (us : Unions) {σ : List Symbol} {vs : Values σ} {ts : List Token} {is : List Item}
+      → After ts σ is vs → ReadsUnions (unions us ts) σ is vs us
+  reads-unions G.none h = unions-none (h .group)
+  reads-unions (andUnion g us) h =
+      let r = reads-unions us h in
+      unions-more g us r (reads-UNION (reads-LBRACE (reads-body g atBody (r .reads))))
 
-sem-nil : Reads [] [] tt
-unfolding semantics ascii
-sem-nil = record { says = refl }
+-- ---- texts
 
 -- the tokens of a query have its meaning
 pub nodeOf-tokens : (q : Query) → nodeOf (tokens q) ≡ some (meaning q)
 unfolding nodeOf meaning
-nodeOf-tokens q = let h : Reads (tokens q) (sLBrace ∷ sBody ∷ []) (tt, (items q, tt)) = sem-brace (sem-body q atBody sem-nil) in rw (h .says)
+nodeOf-tokens q =
+    let h : Reads (tokens q) (sLBrace ∷ sBody ∷ []) (tt, (items q, tt)) = reads-LBRACE (reads-body q atBody reads-nil) in
+    rw (h .says)
 
 -- a text with a derivation has its meaning, and so only one
 pub textNode-derives : (q : Query) (s : List ℕ) → Derives q s → textNode s ≡ some (meaning q)

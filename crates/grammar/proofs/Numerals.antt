@@ -1,14 +1,14 @@
 -- Numbers digit by digit: what `decimal` writes is what is read from the left, one digit after the other. For the machine, which reads
 -- so. Groups: digits from the left (`Digits`, `Numeral`); what they have to do with `decimal`; tokens (`Spells`). Assumes nothing.
 use mathlib.Core.Path.{_≡_, refl, sym, ap, _∙_, subst, subst⁻¹}
-use mathlib.Core.Bool.{Bool, true, false, cond}
+use mathlib.Core.Bool.{Bool, true, false}
 use mathlib.Core.List.{List, [], _∷_, _++_, append-assoc, append-nil}
 use Prim.Native.Nat.{ℕ, zero, suc, _+_, _*_, _-_, _/_, _%_, _≤_, _<_}
 use native.Mathlib.Omega.{arith}
 use native.Mathlib.Nat.{le-refl}
 use lib.Dec.{ltb}
 use borrow.Author.Tests.{ltb-true, ltb-false, lt-ltb, le-ltb}
-use Rattle.tsparql.specs.Strikes.{ascii, digits, decimal}
+use Rattle.tsparql.specs.Strikes.{ascii, decimal}
 use Rattle.tsparql.proofs.TextLaws.{decimal-step}
 use Rattle.grammar.specs.Tokens.{Token, mark, var, num, neg, spelling}
 

@@ -6,7 +6,7 @@ use mathlib.Core.Path.{_≡_, refl, sym, ap, _∙_, subst, subst⁻¹}
 use mathlib.Core.Bool.{Bool, true, false}
 use mathlib.Core.List.{List, [], _∷_, _++_, append-assoc}
 use mathlib.Core.Logic.{_⊎_, inl, inr}
-use Prim.Native.Nat.{ℕ, zero, suc, _+_, _-_, _≤_, _<_}
+use Prim.Native.Nat.{ℕ, suc, _+_, _-_, _≤_, _<_}
 use native.Mathlib.Omega.{arith}
 use lib.ListN.{length, take, drop, length-append}
 use lib.Seq.{take-add}
@@ -15,10 +15,10 @@ use borrow.Author.Tests.{ltb-true, ltb-false}
 use Rattle.grammar.specs.Tokens.{Token, spelling, Written, done, space, token}
 use Rattle.grammar.specs.Grammar.{Query, tokens, Derives, Underivable, Viable}
 use Rattle.grammar.specs.Promise.{LongestStart}
-use Rattle.grammar.specs.Automaton.{Symbol, sLBrace, sBody, Outcome, accepted, fault, run, read, initial}
-use Rattle.grammar.proofs.Accepts.{Step, Accepts, over, then, tokens-accepted, accepted-query}
+use Rattle.grammar.specs.Automaton.{Symbol, sLBrace, sBody, Outcome, accepted, fault, read, initial}
+use Rattle.grammar.proofs.Accepts.{Step, Accepts, then, tokens-accepted, accepted-query}
 use Rattle.grammar.proofs.Numerals.{Spells, spelling-spells}
-use Rattle.grammar.proofs.Lexing.{Rest, Sound, sound, complete, token-bytes}
+use Rattle.grammar.proofs.Lexing.{Sound, sound, complete, token-bytes}
 use Rattle.grammar.proofs.Faults.{Fault, Stops, faults}
 
 -- ---- accepted exactly if there is a derivation

@@ -1,10 +1,9 @@
 -- Facts of the machine's table, each computed: every fixed token has a first byte, which is no white space, digit, '?' or '-', and by which
 -- it is found among those that may come with it. Assumes nothing.
-use mathlib.Core.Path.{_≡_, refl, subst⁻¹}
+use mathlib.Core.Path.{_≡_}
 use mathlib.Core.Bool.{false}
-use mathlib.Core.List.{List, [], _∷_, List·Memᴰ}
+use mathlib.Core.List.{_∷_, List·Memᴰ}
 use mathlib.Core.Option.{some}
-use Prim.Native.Nat.{ℕ}
 use lib.Dec.{eqb}
 use lib.ListN.{getD}
 use Rattle.tsparql.specs.Lists.{Every}

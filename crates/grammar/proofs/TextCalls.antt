@@ -6,7 +6,7 @@ use mathlib.Core.Bool.{Bool, true, false}
 use mathlib.Core.List.{List}
 use mathlib.Core.Option.{Option}
 use mathlib.Core.Logic.{_⊎_, inl, inr}
-use Prim.Native.Nat.{ℕ, _*_, _≤_, _<_}
+use Prim.Native.Nat.{ℕ, _≤_, _<_}
 use native.Mathlib.Omega.{arith}
 use lib.Dec.{ltb}
 use lib.ListN.{length}
@@ -15,11 +15,10 @@ use Rattle.tsparql.specs.Query.{Node}
 use Rattle.tsparql.specs.Writing.{nodeBytes}
 use Rattle.tsparql.specs.Check.{refuse, Passes}
 use Rattle.tsparql.specs.Rewrite.{Rewritten, wroteInto, wroteNothing}
-use Rattle.grammar.specs.Grammar.{Query, Derives, Underivable, tokens}
-use Rattle.grammar.specs.Meaning.{meaning, meaningBytes}
+use Rattle.grammar.specs.Grammar.{Query, Derives, Underivable}
+use Rattle.grammar.specs.Meaning.{meaningBytes}
 use Rattle.grammar.specs.Promise.{textLimit, LongestStart, Promise}
 use Rattle.grammar.specs.Automaton.{Outcome, accepted, fault, read}
-use Rattle.grammar.specs.TokenMeaning.{textNode}
 use Rattle.grammar.specs.ReadText.{nodeOr, textBytes, textRefusal, readText}
 use Rattle.grammar.proofs.Reading.{read-derives, derives-read, read-fault, derives-either, tokens-few}
 use Rattle.grammar.proofs.Means.{textNode-derives}

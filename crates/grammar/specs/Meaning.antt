@@ -9,7 +9,7 @@ use Rattle.tsparql.specs.Query.{aTerm, aVariable, Pattern, Condition}
 use Rattle.tsparql.specs.Query.{Node, patternSet, join, leftJoin, union, projectTrust, ensureTrust}
 use Rattle.tsparql.specs.Query as Q
 use Rattle.tsparql.specs.Writing.{nodeBytes}
-use Rattle.grammar.specs.Grammar.{Variable, Term, Slot, term, variable, Thousandths, plus, minus}
+use Rattle.grammar.specs.Grammar.{Variable, Slot, term, variable, Thousandths, plus, minus}
 use Rattle.grammar.specs.Grammar.{Disjunction, conjuncts, either, Conjunction, single, both}
 use Rattle.grammar.specs.Grammar.{Primary, negatable, equal, less, Negatable, bound, not, parens}
 use Rattle.grammar.specs.Grammar.{Body, end, triple, tripleDot, element, elementDot, Query}

@@ -1,5 +1,5 @@
 -- What the call that reads a typed query answers, in the words of the grammar alone (request 6): no reader is mentioned here. That
--- `readText` keeps it is proved (proofs/TextAnswer). Assumes nothing.
+-- `readText` keeps it is proved (proofs/TextCalls). Assumes nothing.
 use mathlib.Core.Path.{_≡_}
 use mathlib.Core.List.{List}
 use mathlib.Core.Logic.{_⊎_}

@@ -14,7 +14,7 @@ use Rattle.grammar.specs.Tokens as T
 use Rattle.grammar.specs.Meaning.{Item, aTriple, aGroup, aFilter, aProjection, aBound, groupNode, optionalItem}
 use Rattle.grammar.specs.Automaton.{Symbol, sBody, sAfterTriple, sAfterElement, sAfterGroup, sSlot, sVar, sBound}
 use Rattle.grammar.specs.Automaton.{sPrimary, sNegatable, sRelation, sTail, sLBrace, sLParen, sRParen, sComma, sAS, sTRUST}
-use Rattle.grammar.specs.Automaton.{Outcome, accepted, fault, read}
+use Rattle.grammar.specs.Automaton.{accepted, fault, read}
 
 -- ---- values
 
@@ -89,8 +89,7 @@ elementActions =
     (T.LBRACE, (sBody ∷ sAfterGroup ∷ [], λ v. v .1 .0 (groupNode (v .0)))) ∷
     (T.OPTIONAL, (sLBrace ∷ sBody ∷ sAfterElement ∷ [], λ v. optionalItem (v .1 .0) ∷ v .1 .1 .0)) ∷
     (T.FILTER, (sLParen ∷ sPrimary ∷ sTail ∷ sAfterElement ∷ [], λ v. aFilter (v .1 .1 .0 alone (v .1 .0)) ∷ v .1 .1 .1 .0)) ∷
-    (T.TRUST, (sAS ∷ sVar ∷ sAfterElement ∷ [], λ v. aProjection (v .1 .0) ∷ v .1 .1 .0)) ∷
-    (
+    (T.TRUST, (sAS ∷ sVar ∷ sAfterElement ∷ [], λ v. aProjection (v .1 .0) ∷ v .1 .1 .0)) ∷ (
       T.ENSURE,
       (
         sTRUST ∷ sLParen ∷ sBound ∷ sComma ∷ sBound ∷ sRParen ∷ sAfterElement ∷ [],
