@@ -72,8 +72,15 @@ expected (s into n answers a) = anAnswer a
 
 meanings : List Case
 meanings =
+    -- the example of docs/FORMATS.md
+    (ascii "{ ?0 20 21 .\n  OPTIONAL { ?0 30 ?1 FILTER (!(?1 = 7)) }\n  TRUST AS ?2\n  ENSURE TRUST (500, 1000) }"
+    means ensureTrust 1500 2000
+    (projectTrust 2
+    (leftJoin (negation (isTerm 1 7))
+    (patternSet (triple (aVariable 0) (aTerm 20) (aTerm 21) ∷ []))
+    (patternSet (triple (aVariable 0) (aTerm 30) (aVariable 1) ∷ [])))))
     -- nothing is the empty set; white space may stand anywhere around tokens
-    (ascii "{}" means nothing)
+    ∷ (ascii "{}" means nothing)
     ∷ (ascii " {\n} " means nothing)
     -- triples and dots; variables, signs and dots need no space
     ∷ (ascii "{1 2 3}" means setOne)
