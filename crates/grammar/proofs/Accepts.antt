@@ -254,9 +254,9 @@ abbrev yields : (σ : List Symbol) → Vals σ → List Token
 yields [] vs = []
 yields (X ∷ σ) vs = yield X (vs .0) (yields σ (vs .1))
 
-pub every-at : (P : Entry → Type 0) {e : Entry} (es : List Entry) → Every P es → List·Memᴰ e es → P e
-every-at P (x ∷ es) h (List·Memᴰ·head q) = subst⁻¹ P q (h .0)
-every-at P (x ∷ es) h (List·Memᴰ·tail m) = every-at P es (h .1) m
+pub every-member : (P : Entry → Type 0) {e : Entry} (es : List Entry) → Every P es → List·Memᴰ e es → P e
+every-member P (x ∷ es) h (List·Memᴰ·head q) = subst⁻¹ P q (h .0)
+every-member P (x ∷ es) h (List·Memᴰ·tail m) = every-member P es (h .1) m
 
 -- a tree for X, with trees for the rest, whose tokens are ts
 abbrev Built : Symbol → List Symbol → List Token → Type 0
@@ -459,7 +459,7 @@ boundsBuilt sTRUST σ x e vs = absurd (false≢true e)
 stepBuilt : {X : Symbol} {t : Token} {α : List Symbol} (σ : List Symbol) → Step X t α → (vs : Vals (α ++ σ))
     → Built X σ (t ∷ yields (α ++ σ) vs)
 unfolding slotBuilt
-stepBuilt {X} σ (byMark w α h) vs = every-at (FromMark X σ) (marks X) (marksBuilt X σ) h vs
+stepBuilt {X} σ (byMark w α h) vs = every-member (FromMark X σ) (marks X) (marksBuilt X σ) h vs
 stepBuilt {X} σ (byVar n h e) vs =
     let v : Variable = record { name = n; small = h } in
     subst (slotBuilt X σ (variable v)) e (varsBuilt X σ v) vs

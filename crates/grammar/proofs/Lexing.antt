@@ -85,9 +85,9 @@ spelled t u r h sp q w = token t r h (q ∙ ap (λ (l : List ℕ). l ++ r) (spel
 
 -- ---- tests
 
-cond-elim : {A : Type 0} (P : A → Type 0) (c : Bool) {x y : A} → (c ≡ true → P x) → (c ≡ false → P y) → P (cond c x y)
-cond-elim P true f g = f refl
-cond-elim P false f g = g refl
+pub cond-cases : {A : Type 0} (P : A → Type 0) (c : Bool) {x y : A} → (c ≡ true → P x) → (c ≡ false → P y) → P (cond c x y)
+cond-cases P true f g = f refl
+cond-cases P false f g = g refl
 
 both-true : (a b : Bool) → (a && b) ≡ true → (a ≡ true) × (b ≡ true)
 both-true true b e = (refl, e)
@@ -129,7 +129,7 @@ find-mem : (b : ℕ) (es : List Entry) (P : Option Entry → Type 0) → P none
     → ((e : Entry) → List·Memᴰ e es → b ≡ getD (e .0) 0 0 → P (some e)) → P (find b es)
 find-mem b [] P n f = n
 find-mem b (e ∷ es) P n f =
-    cond-elim P (eqb b (getD (e .0) 0 0)) (λ q. f e at0 (eqb-true b _ q)) (λ q. find-mem b es P n (λ x m. f x (List·Memᴰ·tail m)))
+    cond-cases P (eqb b (getD (e .0) 0 0)) (λ q. f e at0 (eqb-true b _ q)) (λ q. find-mem b es P n (λ x m. f x (List·Memᴰ·tail m)))
 
 module _ (a : Bool) (X : Symbol) (σ : List Symbol) (b : ℕ) where
   -- a token at its first byte: that it may come, and how it is written
@@ -144,7 +144,7 @@ module _ (a : Bool) (X : Symbol) (σ : List Symbol) (b : ℕ) where
   back-mark : (e : Entry) → List·Memᴰ e (marks X) → b ≡ getD (e .0) 0 0 → Begins e → Back (gap a (X ∷ σ)) b (onMark a σ (some e))
   back-mark e m q f =
       let P = Back (gap a (X ∷ σ)) b in
-      cond-elim P (a && isCapital (getD (e .0) 0 0)) (λ c. tt)
+      cond-cases P (a && isCapital (getD (e .0) 0 0)) (λ c. tt)
       (λ c. back-within (gap a (X ∷ σ)) b (rest (e .0)) (mark (e .0)) (e .1 ++ σ) (λ us s r.
       back-token (mark (e .0)) (e .0) (r .tail) (r .same) (byMark (e .0) (e .1) m) (r .accepts) c ofMark
       (ap (λ (x : ℕ). x ∷ s) q ∙ ap (λ (l : List ℕ). getD (e .0) 0 0 ∷ l) (r .bytes) ∙ ap (λ (l : List ℕ). l ++ r .tail) (sym f))
@@ -182,7 +182,7 @@ module _ (a : Bool) (X : Symbol) (σ : List Symbol) (b : ℕ) where
   back-term : IsDigit b → a ≡ false → isBound X ≡ false → (o : Option (List Symbol)) → terms X ≡ o → Back (gap a (X ∷ σ)) b (onTerm b σ o)
   back-term d q f none e = tt
   back-term d q f (some α) e =
-      cond-elim (Back (gap a (X ∷ σ)) b) (eqb b 48) (λ z. tt) (λ z.
+      cond-cases (Back (gap a (X ∷ σ)) b) (eqb b 48) (λ z. tt) (λ z.
       let h = d .most in
       let l : 1 ≤ b - 48 = let i = d .least in let n = eqb-false b 48 z in omega arith in
       (omega arith, λ us s r. back-num (b - 48) 1048575 {α = α} d q r (byTerm (r .value) (le-trans l (r .least)) (r .most) e f)))
@@ -192,16 +192,16 @@ unfolding onto
 back-onto a [] b = tt
 back-onto a (X ∷ σ) b =
     let P = Back (gap a (X ∷ σ)) b in
-    cond-elim P (eqb b 63) (λ q. back-var a X σ b (eqb-true b 63 q) (vars X) refl) (λ q.
-    cond-elim P (eqb b 45) (λ q. back-minus a X σ b (eqb-true b 45 q) (isBound X && B.not a) refl) (λ q.
-    cond-elim P (digit b)
-    (λ d. cond-elim P a (λ t. tt) (λ t.
-    cond-elim P (isBound X) (λ h. back-bound a X σ b (digit-true b d) t h) (λ h. back-term a X σ b (digit-true b d) t h (terms X) refl)))
+    cond-cases P (eqb b 63) (λ q. back-var a X σ b (eqb-true b 63 q) (vars X) refl) (λ q.
+    cond-cases P (eqb b 45) (λ q. back-minus a X σ b (eqb-true b 45 q) (isBound X && B.not a) refl) (λ q.
+    cond-cases P (digit b)
+    (λ d. cond-cases P a (λ t. tt) (λ t.
+    cond-cases P (isBound X) (λ h. back-bound a X σ b (digit-true b d) t h) (λ h. back-term a X σ b (digit-true b d) t h (terms X) refl)))
     (λ d. find-mem b (marks X) (λ o. P (onMark a σ o)) tt (λ e m h. back-mark a X σ b e m h (fact-of X m .begins)))))
 
 back-gap : (a : Bool) (σ : List Symbol) (b : ℕ) → Back (gap a σ) b (inGap a σ b)
 back-gap a σ b =
-    cond-elim (Back (gap a σ) b) (isSpace b) (λ e. (tt, λ us s r. (r .0, space b e (r .1)))) (λ e. back-onto a σ b)
+    cond-cases (Back (gap a σ) b) (isSpace b) (λ e. (tt, λ us s r. (r .0, space b e (r .1)))) (λ e. back-onto a σ b)
 
 -- a number that ends before the byte
 back-number : (u v : ℕ) (k : Kind) (σ : List Symbol) (b : ℕ) → v ≤ u → (m : Move) → Back (gap true σ) b m
@@ -230,7 +230,7 @@ longer b h r reads =
 pub back : (st : State) (b : ℕ) → Good st → Back st b (step st b)
 back (gap a σ) b g = back-gap a σ b
 back (inMark c w t σ) b g =
-    cond-elim (Back (inMark c w t σ) b) (eqb b c)
+    cond-cases (Back (inMark c w t σ) b) (eqb b c)
     (λ e. back-within (inMark c w t σ) b w t σ (λ us s r.
     record {
       tail = r .tail;
@@ -242,7 +242,7 @@ back (inMark c w t σ) b g =
     }))
     (λ e. tt)
 back (first l u k σ) b g =
-    cond-elim (Back (first l u k σ) b) (digit b && leb l (b - 48))
+    cond-cases (Back (first l u k σ) b) (digit b && leb l (b - 48))
     (λ e.
     let p = both-true (digit b) (leb l (b - 48)) e in
     let d = digit-true b (p .0) in
@@ -251,7 +251,7 @@ back (first l u k σ) b g =
     (omega arith, λ us s r. longer b (leb-true l (b - 48) (p .1)) r (numeral b d (r .reads))))
     (λ e. tt)
 back (inNumber u v k σ) b g =
-    cond-elim (Back (inNumber u v k σ) b) (digit b && (leb 1 v && leb (v * 10 + (b - 48)) u))
+    cond-cases (Back (inNumber u v k σ) b) (digit b && (leb 1 v && leb (v * 10 + (b - 48)) u))
     (λ e.
     let p = both-true (digit b) (leb 1 v && leb (v * 10 + (b - 48)) u) e in
     let q = both-true (leb 1 v) (leb (v * 10 + (b - 48)) u) (p .1) in

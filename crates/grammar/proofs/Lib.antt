@@ -7,6 +7,7 @@ pub mod Faults
 pub mod Reading
 pub mod Means
 pub mod Sizes
+pub mod Formed
 pub mod Dots
 pub mod TextCalls
 pub mod Cases

@@ -12,7 +12,7 @@ use Rattle.grammar.specs.Tokens.{isSpace}
 use Rattle.grammar.specs.Automaton.{Symbol, sBody, sAfterTriple, sAfterElement, sAfterGroup, sSlot, sVar, sBound}
 use Rattle.grammar.specs.Automaton.{sPrimary, sNegatable, sRelation, sTail, sLBrace, sLParen, sRParen, sComma, sAS, sTRUST}
 use Rattle.grammar.specs.Automaton.{Entry, marks, digit, find, rest}
-use Rattle.grammar.proofs.Accepts.{every-at}
+use Rattle.grammar.proofs.Accepts.{every-member}
 
 -- an entry has a first byte
 abbrev pub Begins : Entry → Type 0
@@ -47,4 +47,4 @@ markFacts sAS = search
 markFacts sTRUST = search
 
 pub fact-of : (X : Symbol) {e : Entry} → List·Memᴰ e (marks X) → MarkFact X e
-fact-of X m = every-at (MarkFact X) (marks X) (markFacts X) m
+fact-of X m = every-member (MarkFact X) (marks X) (markFacts X) m
