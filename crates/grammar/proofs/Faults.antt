@@ -16,7 +16,9 @@ use Rattle.grammar.specs.Automaton.{Outcome, accepted, fault, after, fin
 use Rattle.grammar.proofs.Accepts.{byMark, byVar, byPlus, Accepts, over, then, at0, at1, at2}
 use Rattle.grammar.proofs.Numerals.{Numeral, numeral}
 use Rattle.grammar.proofs.Numerals as N
-use Rattle.grammar.proofs.Lexing.{Rest, Good, ended, spelled, Back, back, follow, forth}
+use Rattle.grammar.proofs.States.{Rest, Good, ended, spelled}
+use Rattle.grammar.proofs.Sound.{Back, back, follow}
+use Rattle.grammar.proofs.Complete.{forth}
 
 -- ---- every state can be finished
 

@@ -1,22 +1,20 @@
 -- The meaning of a derivation is a query in range, so its bytes are read back as it, and no call refuses them with 6. Groups: conditions;
 -- items and joins; a group; trees. Assumes nothing.
-use mathlib.Core.Path.{_≡_, refl}
-use mathlib.Core.Bool.{Bool, true, false, cond}
+use mathlib.Core.Path.{_≡_}
+use mathlib.Core.Bool.{Bool}
 use mathlib.Core.List.{List, [], _∷_, _++_}
-use Prim.Native.Nat.{ℕ, _+_, _-_, _≤_, _<_}
+use Prim.Native.Nat.{_≤_, _<_}
 use native.Mathlib.Omega.{arith}
 use lib.Dec.{eqb}
 use lib.ListN.{length, length-append}
 use borrow.Author.Tests.{eqb-false}
 use Rattle.tsparql.specs.Lists.{Every}
-use Rattle.tsparql.specs.Query.{Pattern, Condition, Node, patternSet, join, leftJoin, union, projectTrust, ensureTrust}
+use Rattle.tsparql.specs.Query.{Pattern, Condition, Node, patternSet, leftJoin, union, projectTrust, ensureTrust}
 use Rattle.tsparql.specs.Query as Q
-use Rattle.tsparql.specs.Writing.{nodeSize}
 use Rattle.tsparql.specs.Reading.{got, readQuery}
 use Rattle.tsparql.specs.WellFormed.{VariableFormed, SlotFormed, PatternFormed, ConditionFormed, NodeFormed}
 use Rattle.tsparql.proofs.ListLaws.{every-append}
 use Rattle.tsparql.proofs.ReadWritten.{readQuery-written}
-use Rattle.grammar.proofs.Lexing.{cond-cases}
 use Rattle.grammar.specs.Grammar.{Variable, Slot, term, variable, Thousandths, plus, minus}
 use Rattle.grammar.specs.Grammar.{Disjunction, conjuncts, either, Conjunction, single, both}
 use Rattle.grammar.specs.Grammar.{Primary, negatable, equal, less, Negatable, bound, not, parens}
@@ -25,7 +23,8 @@ use Rattle.grammar.specs.Grammar.{Element, groups, optional, filter, tru
 use Rattle.grammar.specs.Meaning.{slotOf, patternOf, valueOf, equation, disjunctionOf, conjunctionOf, primaryOf, negatableOf}
 use Rattle.grammar.specs.Meaning.{Item, aTriple, aGroup, anOptional, aFilter, aProjection, aBound}
 use Rattle.grammar.specs.Meaning.{isEmptySet, joined, gathered, projected, bounded, filters, conjoined, filtered, condition}
-use Rattle.grammar.specs.Meaning.{unfiltered, groupNode, optionalItem, items, itemOf, united, meaning, meaningBytes}
+use Rattle.grammar.specs.Meaning.{unfiltered, groupNode, items, itemOf, united, meaning, meaningBytes}
+use Rattle.grammar.proofs.Basics.{cond-cases}
 
 -- ---- conditions
 

@@ -1,8 +1,12 @@
 -- Laws about typed queries, each file above those that it uses.
+pub mod Basics
 pub mod Accepts
+pub mod Trees
 pub mod Numerals
 pub mod TableFacts
-pub mod Lexing
+pub mod States
+pub mod Sound
+pub mod Complete
 pub mod Faults
 pub mod Reading
 pub mod Means

@@ -16,9 +16,11 @@ use Rattle.grammar.specs.Tokens.{Token, spelling, Written, done, space, 
 use Rattle.grammar.specs.Grammar.{Query, tokens, Derives, Underivable, Viable}
 use Rattle.grammar.specs.Promise.{LongestStart}
 use Rattle.grammar.specs.Automaton.{Symbol, sLBrace, sBody, Outcome, accepted, fault, read, initial}
-use Rattle.grammar.proofs.Accepts.{Step, Accepts, then, tokens-accepted, accepted-query}
+use Rattle.grammar.proofs.Accepts.{Step, Accepts, then, tokens-accepted}
+use Rattle.grammar.proofs.Trees.{accepted-query}
 use Rattle.grammar.proofs.Numerals.{Spells, spelling-spells}
-use Rattle.grammar.proofs.Lexing.{Sound, sound, complete, token-bytes}
+use Rattle.grammar.proofs.Sound.{Sound, sound}
+use Rattle.grammar.proofs.Complete.{complete, token-bytes}
 use Rattle.grammar.proofs.Faults.{Fault, Stops, faults}
 
 -- ---- accepted exactly if there is a derivation

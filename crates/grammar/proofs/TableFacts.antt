@@ -12,7 +12,7 @@ use Rattle.grammar.specs.Tokens.{isSpace}
 use Rattle.grammar.specs.Automaton.{Symbol, sBody, sAfterTriple, sAfterElement, sAfterGroup, sSlot, sVar, sBound}
 use Rattle.grammar.specs.Automaton.{sPrimary, sNegatable, sRelation, sTail, sLBrace, sLParen, sRParen, sComma, sAS, sTRUST}
 use Rattle.grammar.specs.Automaton.{Entry, marks, digit, find, rest}
-use Rattle.grammar.proofs.Accepts.{every-member}
+use Rattle.grammar.proofs.Basics.{every-member}
 
 -- an entry has a first byte
 abbrev pub Begins : Entry → Type 0
