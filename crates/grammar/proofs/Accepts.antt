@@ -12,7 +12,8 @@ use Rattle.grammar.specs.Grammar.{Disjunction, conjuncts, either, Conjun
 use Rattle.grammar.specs.Grammar.{Primary, negatable, equal, less, Negatable, bound, not, parens}
 use Rattle.grammar.specs.Grammar.{Body, end, triple, tripleDot, element, elementDot, Query, tokens}
 use Rattle.grammar.specs.Grammar.{Element, groups, optional, filter, trustAs, ensure, Unions, andUnion}
-use Rattle.grammar.specs.Grammar.{disjunction, conjunction, primary, negated, body, elementTokens, unions}
+use Rattle.grammar.specs.Grammar.{disjunctionTokens, conjunctionTokens, primaryTokens, negatableTokens}
+use Rattle.grammar.specs.Grammar.{bodyTokens, elementTokens, unionsTokens}
 use Rattle.grammar.specs.Grammar.{slotToken, variableToken, thousandthsToken}
 use Rattle.grammar.specs.Grammar as G
 use Rattle.grammar.specs.Automaton.{Symbol, sBody, sAfterTriple, sAfterElement, sAfterGroup, sSlot, sVar, sBound}
@@ -79,21 +80,21 @@ afterGroup (then (byMinus n l h e) a) = absurd (false≢true e)
 
 mutual
   ofDisjunction : (d : Disjunction) {σ : List Symbol} {k : List Token}
-      → Accepts (sTail ∷ σ) k → Accepts (sPrimary ∷ sTail ∷ σ) (disjunction d k)
+      → Accepts (sTail ∷ σ) k → Accepts (sPrimary ∷ sTail ∷ σ) (disjunctionTokens d k)
   ofDisjunction (conjuncts c) a = ofConjunction c a
   ofDisjunction (either d c) a = ofDisjunction d (then (byMark _ _ at2) (ofConjunction c a))
 
   ofConjunction : (c : Conjunction) {σ : List Symbol} {k : List Token}
-      → Accepts (sTail ∷ σ) k → Accepts (sPrimary ∷ sTail ∷ σ) (conjunction c k)
+      → Accepts (sTail ∷ σ) k → Accepts (sPrimary ∷ sTail ∷ σ) (conjunctionTokens c k)
   ofConjunction (single p) a = ofPrimary p a
   ofConjunction (both c p) a = ofConjunction c (then (byMark _ _ at1) (ofPrimary p a))
 
-  ofPrimary : (p : Primary) {σ : List Symbol} {k : List Token} → Accepts σ k → Accepts (sPrimary ∷ σ) (primary p k)
+  ofPrimary : (p : Primary) {σ : List Symbol} {k : List Token} → Accepts σ k → Accepts (sPrimary ∷ σ) (primaryTokens p k)
   ofPrimary (negatable n) a = asPrimary (ofNegatable n a)
   ofPrimary (equal v s) a = then (byVar (v .name) (v .small) refl) (then (byMark _ _ at0) (ofSlot s a))
   ofPrimary (less v w) a = then (byVar (v .name) (v .small) refl) (then (byMark _ _ at1) (ofVariable w a))
 
-  ofNegatable : (n : Negatable) {σ : List Symbol} {k : List Token} → Accepts σ k → Accepts (sNegatable ∷ σ) (negated n k)
+  ofNegatable : (n : Negatable) {σ : List Symbol} {k : List Token} → Accepts σ k → Accepts (sNegatable ∷ σ) (negatableTokens n k)
   ofNegatable (bound v) a = then (byMark _ _ at0) (then (byMark _ _ at0) (ofVariable v (then (byMark _ _ at0) a)))
   ofNegatable (not n) a = then (byMark _ _ at1) (ofNegatable n a)
   ofNegatable (parens d) a = then (byMark _ _ at2) (ofDisjunction d (then (byMark _ _ at0) a))
@@ -122,7 +123,7 @@ ofTriple (term t) y z a = then (byTerm (t .number) (t .least) (t .most) refl ref
 ofTriple (variable v) y z a = then (byVar (v .name) (v .small) refl) (ofSlot y (ofSlot z a))
 
 mutual
-  ofBody : {m : Bool} (b : Body m) {σ : List Symbol} {k : List Token} → Accepts σ k → Accepts (symOf m ∷ σ) (body b k)
+  ofBody : {m : Bool} (b : Body m) {σ : List Symbol} {k : List Token} → Accepts σ k → Accepts (symOf m ∷ σ) (bodyTokens b k)
   ofBody {m} end a = then (byMark T.RBRACE [] (inElements m at0)) a
   ofBody (triple x y z b) a = ofTriple x y z (ofBody b a)
   ofBody (tripleDot x y z b) a = ofTriple x y z (then (byMark T.DOT (sBody ∷ []) at0) (ofBody b a))
@@ -143,7 +144,8 @@ mutual
       then (byMark T.ENSURE (sTRUST ∷ sLParen ∷ sBound ∷ sComma ∷ sBound ∷ sRParen ∷ sAfterElement ∷ []) (inElements m at5))
       (then (byMark _ _ at0) (then (byMark _ _ at0) (ofThousandths l (then (byMark _ _ at0) (ofThousandths u (then (byMark _ _ at0) a))))))
 
-  ofUnions : (us : Unions) {σ : List Symbol} {k : List Token} → Accepts (sAfterElement ∷ σ) k → Accepts (sAfterGroup ∷ σ) (unions us k)
+  ofUnions : (us : Unions) {σ : List Symbol} {k : List Token}
+      → Accepts (sAfterElement ∷ σ) k → Accepts (sAfterGroup ∷ σ) (unionsTokens us k)
   ofUnions G.none a = afterGroup a
   ofUnions (andUnion g us) a =
       then (byMark T.UNION (sLBrace ∷ sBody ∷ sAfterGroup ∷ []) at0) (then (byMark _ _ at0) (ofBody g (ofUnions us a)))

@@ -176,7 +176,7 @@ callCases =
     ∷ (ascii "{1 2 3}" into 10 answers record { refusal = refuse 0 0; size = 10; output = answeredOne })
     ∷ (ascii "{1 2 3}" into 9 answers wroteNothing (refuse 12 10) (replicate 9 7))
     ∷ (ascii "{1 2 }" into 9 answers wroteNothing (refuse 11 5) (replicate 9 7))
-    -- 4,096 bytes are read, one more is not: both at 4,096
+    -- 4,096 bytes are read, 4,097 are not
     ∷ (replicate 4096 32 into 2 answers wroteNothing (refuse 11 4096) (7 ∷ 7 ∷ []))
     ∷ (ascii "{." ++ replicate 4094 32 into 2 answers wroteNothing (refuse 11 1) (7 ∷ 7 ∷ []))
     ∷ (ascii "{." ++ replicate 4095 32 into 2 answers wroteNothing (refuse 11 4096) (7 ∷ 7 ∷ []))

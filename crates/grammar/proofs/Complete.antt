@@ -9,7 +9,7 @@ use native.Mathlib.Omega.{arith}
 use lib.Dec.{eqb}
 use lib.ListN.{getD}
 use borrow.Author.Tests.{eqb-true, le-leb, lt-leb, eq-eqb, ne-eqb}
-use Rattle.grammar.specs.Tokens.{Token, mark, num, spelling, isWordOrNumber, endsWord, isCapital, isSpace}
+use Rattle.grammar.specs.Tokens.{Token, mark, num, spelling, isWordOrNumber, isWordNumberOrVariable, isCapital, isSpace}
 use Rattle.grammar.specs.Tokens.{Written, space, token}
 use Rattle.grammar.specs.Automaton.{Symbol, Entry, marks, vars, terms, isBound, Kind, kVar, kNum, kNeg, tokenOf}
 use Rattle.grammar.specs.Automaton.{State, gap, inMark, first, inNumber, Move, go, prepend, digit, within, rest}
@@ -42,11 +42,11 @@ forth-within : (w : List ℕ) (t : Token) (σ : List Symbol) (ts : List Token) (
 forth-within [] t σ ts s r =
     record {
       taken = t ∷ [];
-      state = gap (endsWord t) σ;
+      state = gap (isWordNumberOrVariable t) σ;
       left = r .tokens;
       moves = refl;
       same = r .same;
-      rests = (r .accepts, subst⁻¹ (Written (endsWord t) (r .tokens)) (r .bytes) (r .written));
+      rests = (r .accepts, subst⁻¹ (Written (isWordNumberOrVariable t) (r .tokens)) (r .bytes) (r .written));
     }
 forth-within (c ∷ w) t σ ts s r = forth-in (inMark c w t σ) refl r
 
@@ -122,8 +122,8 @@ before-number l u k σ s w r n ts q d i m x y =
 
 -- a token at its first byte
 forth-token : (a : Bool) {X : Symbol} (σ : List Symbol) {t : Token} {α : List Symbol} (ts : List Token) (u r : List ℕ) (b : ℕ) (s : List ℕ)
-    → Step X t α → Spells t u → (a && isWordOrNumber t) ≡ false → b ∷ s ≡ u ++ r → Accepts (α ++ σ) ts → Written (endsWord t) ts r
-    → Forth (t ∷ ts) s (inGap a (X ∷ σ) b)
+    → Step X t α → Spells t u → (a && isWordOrNumber t) ≡ false → b ∷ s ≡ u ++ r → Accepts (α ++ σ) ts
+    → Written (isWordNumberOrVariable t) ts r → Forth (t ∷ ts) s (inGap a (X ∷ σ) b)
 forth-token a {X} σ ts u r b s (byMark w α m) ofMark h q x y =
     let p : b ∷ s ≡ getD w 0 0 ∷ (rest w ++ r) = q ∙ ap (λ (l : List ℕ). l ++ r) (fact-of X m .begins) in
     subst⁻¹ (Forth (mark w ∷ ts) s) (at-mark a X σ b (w, α) m (head-eq p) h)

@@ -8,7 +8,8 @@ use mathlib.Core.Option.{Option, none, some}
 use Prim.Native.Nat.{ℕ}
 use Rattle.grammar.specs.Tokens.{Token, mark, LBRACE, DOT, OPTIONAL, UNION, Written}
 use Rattle.grammar.specs.Grammar.{Slot, slotToken, Query, tokens, Derives}
-use Rattle.grammar.specs.Grammar.{Body, end, triple, tripleDot, element, elementDot, body, Element, elementTokens, Unions, unions}
+use Rattle.grammar.specs.Grammar.{Body, end, triple, tripleDot, element, elementDot, Element, Unions}
+use Rattle.grammar.specs.Grammar.{bodyTokens, elementTokens, unionsTokens}
 use Rattle.grammar.specs.Grammar as G
 use Rattle.grammar.specs.Sparql.{TriplesBlock, only, dotted, more, Filter, filter, trustAs, ensure, GroupGraphPattern, group}
 use Rattle.grammar.specs.Sparql.{Star, closing, next, Part, optional, groupOrUnion, aFilter, UnionStar, single, union}
@@ -53,21 +54,21 @@ mutual
   unionsOf single = G.none
   unionsOf (union g us) = G.andUnion (groupBody g) (unionsOf us)
 
-module _ (f : Body false) (t : Body true) (k l : List Token) (e : body f k ≡ l) (h : body t k ≡ l) where
-  blockBody-tokens : (b : TriplesBlock) → body (blockBody b f t) k ≡ blockTokens b l
+module _ (f : Body false) (t : Body true) (k l : List Token) (e : bodyTokens f k ≡ l) (h : bodyTokens t k ≡ l) where
+  blockBody-tokens : (b : TriplesBlock) → bodyTokens (blockBody b f t) k ≡ blockTokens b l
   unfolding blockBody
   blockBody-tokens (only x y z) = ap (λ (r : List Token). slotToken x ∷ slotToken y ∷ slotToken z ∷ r) e
   blockBody-tokens (dotted x y z) = ap (λ (r : List Token). slotToken x ∷ slotToken y ∷ slotToken z ∷ mark DOT ∷ r) h
   blockBody-tokens (more x y z b) =
       ap (λ (r : List Token). slotToken x ∷ slotToken y ∷ slotToken z ∷ mark DOT ∷ r) (blockBody-tokens b)
 
-  orBlock-tokens : (b : Option TriplesBlock) → body (orBlock b f t) k ≡ optionalBlock b l
+  orBlock-tokens : (b : Option TriplesBlock) → bodyTokens (orBlock b f t) k ≡ optionalBlock b l
   unfolding orBlock
   orBlock-tokens none = h
   orBlock-tokens (some b) = blockBody-tokens b
 
 withDot-tokens : (a d : Bool) (e : Element) (b : Body true) (k : List Token)
-    → body (withDot {a = a} d e b) k ≡ elementTokens e (optionalDot d (body b k))
+    → bodyTokens (withDot {a = a} d e b) k ≡ elementTokens e (optionalDot d (bodyTokens b k))
 unfolding withDot
 withDot-tokens a true e b k = refl
 withDot-tokens a false e b k = refl
@@ -81,28 +82,28 @@ filter-tokens (ensure l u) k = refl
 mutual
   unfolding groupBody
 
-  group-tokens : (g : GroupGraphPattern) (k : List Token) → mark LBRACE ∷ body (groupBody g) k ≡ groupTokens g k
+  group-tokens : (g : GroupGraphPattern) (k : List Token) → mark LBRACE ∷ bodyTokens (groupBody g) k ≡ groupTokens g k
   group-tokens (group b s) k =
       ap (λ (r : List Token). mark LBRACE ∷ r)
       (orBlock-tokens (starBody false s) (starBody true s) k (starTokens s k) (star-tokens false s k) (star-tokens true s k) b)
 
-  star-tokens : (a : Bool) (s : Star) (k : List Token) → body (starBody a s) k ≡ starTokens s k
+  star-tokens : (a : Bool) (s : Star) (k : List Token) → bodyTokens (starBody a s) k ≡ starTokens s k
   star-tokens a closing k = refl
   star-tokens a (next p d b s) k =
       withDot-tokens a d (partElement p) (orBlock b (starBody false s) (starBody true s)) k
-      ∙ part-tokens p (optionalDot d (body (orBlock b (starBody false s) (starBody true s)) k))
+      ∙ part-tokens p (optionalDot d (bodyTokens (orBlock b (starBody false s) (starBody true s)) k))
       ∙ ap (λ (r : List Token). partTokens p (optionalDot d r))
       (orBlock-tokens (starBody false s) (starBody true s) k (starTokens s k) (star-tokens false s k) (star-tokens true s k) b)
 
   part-tokens : (p : Part) (k : List Token) → elementTokens (partElement p) k ≡ partTokens p k
   part-tokens (optional g) k = ap (λ (r : List Token). mark OPTIONAL ∷ r) (group-tokens g k)
-  part-tokens (groupOrUnion g us) k = group-tokens g (unions (unionsOf us) k) ∙ ap (groupTokens g) (union-tokens us k)
+  part-tokens (groupOrUnion g us) k = group-tokens g (unionsTokens (unionsOf us) k) ∙ ap (groupTokens g) (union-tokens us k)
   part-tokens (aFilter f) k = filter-tokens f k
 
-  union-tokens : (us : UnionStar) (k : List Token) → unions (unionsOf us) k ≡ unionTokens us k
+  union-tokens : (us : UnionStar) (k : List Token) → unionsTokens (unionsOf us) k ≡ unionTokens us k
   union-tokens single k = refl
   union-tokens (union g us) k =
-      ap (λ (r : List Token). mark UNION ∷ r) (group-tokens g (unions (unionsOf us) k) ∙ ap (groupTokens g) (union-tokens us k))
+      ap (λ (r : List Token). mark UNION ∷ r) (group-tokens g (unionsTokens (unionsOf us) k) ∙ ap (groupTokens g) (union-tokens us k))
 
 pub sparql-query : (g : GroupGraphPattern) → (q : Query) × (tokens q ≡ groupTokens g [])
 sparql-query g = (groupBody g, group-tokens g [])
@@ -165,7 +166,7 @@ mutual
 mutual
   unfolding parted
 
-  parted-tokens : {a : Bool} (b : Body a) (k : List Token) → partedTokens a (parted b) k ≡ body b k
+  parted-tokens : {a : Bool} (b : Body a) (k : List Token) → partedTokens a (parted b) k ≡ bodyTokens b k
   parted-tokens {a} end k = bare-tokens a closing k
   parted-tokens (triple x y z b) k = ap (λ (r : List Token). slotToken x ∷ slotToken y ∷ slotToken z ∷ r) (parted-tokens b k)
   parted-tokens (tripleDot x y z b) k =
@@ -173,24 +174,25 @@ mutual
       ∙ ap (λ (r : List Token). slotToken x ∷ slotToken y ∷ slotToken z ∷ mark DOT ∷ r) (parted-tokens b k)
   parted-tokens {a} (element e b) k =
       bare-tokens a (next (elementPart e) false (parted b .0) (parted b .1)) k
-      ∙ ap (partTokens (elementPart e)) (parted-tokens b k) ∙ element-tokens e (body b k)
+      ∙ ap (partTokens (elementPart e)) (parted-tokens b k) ∙ element-tokens e (bodyTokens b k)
   parted-tokens {a} (elementDot e b) k =
       bare-tokens a (next (elementPart e) true (parted b .0) (parted b .1)) k
-      ∙ ap (λ (r : List Token). partTokens (elementPart e) (mark DOT ∷ r)) (parted-tokens b k) ∙ element-tokens e (mark DOT ∷ body b k)
+      ∙ ap (λ (r : List Token). partTokens (elementPart e) (mark DOT ∷ r)) (parted-tokens b k)
+      ∙ element-tokens e (mark DOT ∷ bodyTokens b k)
 
   element-tokens : (e : Element) (k : List Token) → partTokens (elementPart e) k ≡ elementTokens e k
   element-tokens (G.groups g us) k =
-      ap (λ (r : List Token). mark LBRACE ∷ r) (parted-tokens g (unionTokens (unionStar us) k) ∙ ap (body g) (unionStar-tokens us k))
+      ap (λ (r : List Token). mark LBRACE ∷ r) (parted-tokens g (unionTokens (unionStar us) k) ∙ ap (bodyTokens g) (unionStar-tokens us k))
   element-tokens (G.optional g) k = ap (λ (r : List Token). mark OPTIONAL ∷ mark LBRACE ∷ r) (parted-tokens g k)
   element-tokens (G.filter d) k = refl
   element-tokens (G.trustAs v) k = refl
   element-tokens (G.ensure l u) k = refl
 
-  unionStar-tokens : (us : Unions) (k : List Token) → unionTokens (unionStar us) k ≡ unions us k
+  unionStar-tokens : (us : Unions) (k : List Token) → unionTokens (unionStar us) k ≡ unionsTokens us k
   unionStar-tokens G.none k = refl
   unionStar-tokens (G.andUnion g us) k =
       ap (λ (r : List Token). mark UNION ∷ mark LBRACE ∷ r)
-      (parted-tokens g (unionTokens (unionStar us) k) ∙ ap (body g) (unionStar-tokens us k))
+      (parted-tokens g (unionTokens (unionStar us) k) ∙ ap (bodyTokens g) (unionStar-tokens us k))
 
 pub query-sparql : (q : Query) → (g : GroupGraphPattern) × (groupTokens g [] ≡ tokens q)
 query-sparql q = (grouped (parted q), ap (λ (r : List Token). mark LBRACE ∷ r) (parted-tokens q []))

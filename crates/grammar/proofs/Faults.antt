@@ -7,7 +7,7 @@ use mathlib.Core.Option.{some}
 use Prim.Native.Nat.{ℕ, suc, _+_, _≤_, _<_}
 use native.Mathlib.Omega.{arith}
 use lib.ListN.{length, take}
-use Rattle.grammar.specs.Tokens.{Token, mark, var, num, endsWord, Written, done, space, token}
+use Rattle.grammar.specs.Tokens.{Token, mark, var, num, isWordNumberOrVariable, Written, done, space, token}
 use Rattle.grammar.specs.Tokens as T
 use Rattle.grammar.specs.Automaton.{Symbol, sBody, sAfterTriple, sAfterElement, sAfterGroup, sSlot, sVar, sBound}
 use Rattle.grammar.specs.Automaton.{sPrimary, sNegatable, sRelation, sTail, sLBrace, sLParen, sRParen, sComma, sAS, sTRUST}
@@ -36,7 +36,7 @@ finish-mark {α = α} w m f =
       tokens = mark w ∷ f .tokens;
       bytes = 32 ∷ (w ++ f .bytes);
       accepts = then (byMark w α m) (f .accepts);
-      written = λ a. space 32 refl (token (mark w) (f .bytes) refl refl (f .written (endsWord (mark w))));
+      written = λ a. space 32 refl (token (mark w) (f .bytes) refl refl (f .written (isWordNumberOrVariable (mark w))));
     }
 
 numeral-one : Numeral 1 (49 ∷ [])
@@ -99,7 +99,7 @@ finishes (inMark c w t σ) g =
         bytes = refl;
         same = refl;
         accepts = f .accepts;
-        written = f .written (endsWord t);
+        written = f .written (isWordNumberOrVariable t);
       },
     )
 finishes (first l u k σ) g =

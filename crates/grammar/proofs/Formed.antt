@@ -1,11 +1,11 @@
--- The meaning of a derivation is a query in range, so its bytes are read back as it, and no call refuses them with 6. Groups: conditions;
--- items and joins; a group; trees. Assumes nothing.
+-- The meaning of a derivation is a query in range (`meaning-formed`), so its bytes are read back as it (`meaning-read`), and their check
+-- never refuses with 6 (`meaning-checked`). Groups: conditions; items and joins; a group; trees. Assumes nothing.
 use mathlib.Core.Path.{_≡_}
 use mathlib.Core.Bool.{Bool}
 use mathlib.Core.List.{List, [], _∷_, _++_}
-use Prim.Native.Nat.{_≤_, _<_}
+use Prim.Native.Nat.{ℕ, _≤_, _<_}
 use native.Mathlib.Omega.{arith}
-use lib.Dec.{eqb}
+use lib.Dec.{eqb, ltb}
 use lib.ListN.{length, length-append}
 use borrow.Author.Tests.{eqb-false}
 use Rattle.tsparql.specs.Lists.{Every}
@@ -13,6 +13,7 @@ use Rattle.tsparql.specs.Query.{Pattern, Condition, Node, patternSet, leftJoin,
 use Rattle.tsparql.specs.Query as Q
 use Rattle.tsparql.specs.Reading.{got, readQuery}
 use Rattle.tsparql.specs.WellFormed.{VariableFormed, SlotFormed, PatternFormed, ConditionFormed, NodeFormed}
+use Rattle.tsparql.specs.Check.{refuseIf, orElse, variablesRefusal, queryRefusal}
 use Rattle.tsparql.proofs.ListLaws.{every-append}
 use Rattle.tsparql.proofs.ReadWritten.{readQuery-written}
 use Rattle.grammar.specs.Grammar.{Variable, Slot, term, variable, Thousandths, plus, minus}
@@ -194,3 +195,10 @@ meaning-formed q = group-formed (items q) (items-formed q)
 pub meaning-read : (q : Query) → readQuery (meaningBytes q) ≡ got (meaning q) (length (meaningBytes q))
 unfolding meaningBytes
 meaning-read q = readQuery-written (meaning q) (meaning-formed q)
+
+-- so their check has 5 for their length and 7 for the query's variables, and never 6
+pub meaning-checked : (limit : ℕ) (q : Query)
+    → queryRefusal limit (meaningBytes q)
+    ≡ orElse (refuseIf (ltb limit (length (meaningBytes q))) 5 0) (variablesRefusal (meaning q))
+unfolding queryRefusal
+meaning-checked limit q = rw (meaning-read q)

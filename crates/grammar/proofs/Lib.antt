@@ -1,4 +1,4 @@
--- Laws about typed queries, each file above those that it uses.
+-- Laws about typed queries, each file above the ones that use it.
 pub mod Basics
 pub mod Accepts
 pub mod Trees

@@ -15,7 +15,8 @@ use Rattle.grammar.specs.Grammar.{Disjunction, conjuncts, either, Conjun
 use Rattle.grammar.specs.Grammar.{Primary, negatable, equal, less, Negatable, bound, not, parens}
 use Rattle.grammar.specs.Grammar.{Body, end, triple, tripleDot, element, elementDot, Query, tokens, Derives}
 use Rattle.grammar.specs.Grammar.{Element, groups, optional, filter, trustAs, ensure, Unions, andUnion}
-use Rattle.grammar.specs.Grammar.{disjunction, conjunction, primary, negated, body, elementTokens, unions}
+use Rattle.grammar.specs.Grammar.{disjunctionTokens, conjunctionTokens, primaryTokens, negatableTokens}
+use Rattle.grammar.specs.Grammar.{bodyTokens, elementTokens, unionsTokens}
 use Rattle.grammar.specs.Grammar.{slotToken, variableToken, thousandthsToken}
 use Rattle.grammar.specs.Grammar as G
 use Rattle.grammar.specs.Meaning.{slotOf, valueOf, disjunctionOf, conjunctionOf, primaryOf, negatableOf}
@@ -107,16 +108,16 @@ module _ {σ : List Symbol} {vs : Values σ} {ts : List Token} where
   recast : {X : Symbol} {x y : Value X} → Reads ts (X ∷ σ) (x, vs) → x ≡ y → Reads ts (X ∷ σ) (y, vs)
   recast {X} h e = subst (λ (z : Value X). Reads ts (X ∷ σ) (z, vs)) e h
 
-  reads-equal : (v : Variable) (s : Slot) → Reads ts σ vs → Reads (primary (equal v s) ts) (sPrimary ∷ σ) (primaryOf (equal v s), vs)
+  reads-equal : (v : Variable) (s : Slot) → Reads ts σ vs → Reads (primaryTokens (equal v s) ts) (sPrimary ∷ σ) (primaryOf (equal v s), vs)
   unfolding semantics ascii primaryOf
   reads-equal v (term t) h = record { says = rw (h .says) }
   reads-equal v (variable w) h = record { says = rw (h .says) }
 
-  reads-less : (v w : Variable) → Reads ts σ vs → Reads (primary (less v w) ts) (sPrimary ∷ σ) (primaryOf (less v w), vs)
+  reads-less : (v w : Variable) → Reads ts σ vs → Reads (primaryTokens (less v w) ts) (sPrimary ∷ σ) (primaryOf (less v w), vs)
   unfolding semantics ascii primaryOf
   reads-less v w h = record { says = rw (h .says) }
 
-  reads-BOUND : (v : Variable) → Reads ts σ vs → Reads (negated (bound v) ts) (sNegatable ∷ σ) (negatableOf (bound v), vs)
+  reads-BOUND : (v : Variable) → Reads ts σ vs → Reads (negatableTokens (bound v) ts) (sNegatable ∷ σ) (negatableOf (bound v), vs)
   unfolding semantics ascii negatableOf
   reads-BOUND v h = record { says = rw (h .says) }
 
@@ -145,7 +146,7 @@ module _ {σ : List Symbol} {vs : Values σ} {ts : List Token} where
   reads-closed h = record { says = rw (h .says) }
 
 as-primary : {σ : List Symbol} {vs : Values σ} (ts : List Token) (n : Negatable) {c : Condition}
-    → Reads (negated n ts) (sNegatable ∷ σ) (c, vs) → Reads (negated n ts) (sPrimary ∷ σ) (c, vs)
+    → Reads (negatableTokens n ts) (sNegatable ∷ σ) (c, vs) → Reads (negatableTokens n ts) (sPrimary ∷ σ) (c, vs)
 unfolding semantics ascii
 as-primary ts (bound v) h = record { says = h .says }
 as-primary ts (not n) h = record { says = h .says }
@@ -196,25 +197,25 @@ module _ {σ : List Symbol} {vs : Values σ} {ts : List Token} {f : Value sTail}
 
 mutual
   reads-disjunction : (d : Disjunction) {σ : List Symbol} {vs : Values σ} {ts : List Token} {f : Value sTail}
-      → Reads ts (sTail ∷ σ) (f, vs) → ReadsDisjunction σ (disjunction d ts) vs f d
+      → Reads ts (sTail ∷ σ) (f, vs) → ReadsDisjunction σ (disjunctionTokens d ts) vs f d
   reads-disjunction (conjuncts c) h = disjunction-conjuncts c (reads-conjunction c h)
   reads-disjunction (either d c) h =
       let r = reads-conjunction c h in
       disjunction-either d c r (reads-disjunction d (reads-OR (r .reads)))
 
   reads-conjunction : (c : Conjunction) {σ : List Symbol} {vs : Values σ} {ts : List Token} {f : Value sTail}
-      → Reads ts (sTail ∷ σ) (f, vs) → ReadsConjunction σ (conjunction c ts) vs f (conjunctionOf c)
+      → Reads ts (sTail ∷ σ) (f, vs) → ReadsConjunction σ (conjunctionTokens c ts) vs f (conjunctionOf c)
   reads-conjunction (single p) h = conjunction-single p (reads-primary p h)
   reads-conjunction (both c p) h = conjunction-both c p (reads-conjunction c (reads-AND (reads-primary p h)))
 
   reads-primary : (p : Primary) {σ : List Symbol} {vs : Values σ} {ts : List Token}
-      → Reads ts σ vs → Reads (primary p ts) (sPrimary ∷ σ) (primaryOf p, vs)
+      → Reads ts σ vs → Reads (primaryTokens p ts) (sPrimary ∷ σ) (primaryOf p, vs)
   reads-primary (negatable n) {ts = ts} h = recast (as-primary ts n (reads-negatable n h)) (primary-negatable n)
   reads-primary (equal v s) h = reads-equal v s h
   reads-primary (less v w) h = reads-less v w h
 
   reads-negatable : (n : Negatable) {σ : List Symbol} {vs : Values σ} {ts : List Token}
-      → Reads ts σ vs → Reads (negated n ts) (sNegatable ∷ σ) (negatableOf n, vs)
+      → Reads ts σ vs → Reads (negatableTokens n ts) (sNegatable ∷ σ) (negatableOf n, vs)
   reads-negatable (bound v) h = reads-BOUND v h
   reads-negatable (not n) h = recast (reads-NOT (reads-negatable n h)) (negatable-not n)
   reads-negatable (parens d) h =
@@ -347,7 +348,7 @@ mutual
   unfolding items
 
   reads-body : {a : Bool} (b : Body a) (P : Place a) {σ : List Symbol} {vs : Values σ} {ts : List Token}
-      → Reads ts σ vs → ReadsAt P (body b ts) σ (items b) vs
+      → Reads ts σ vs → ReadsAt P (bodyTokens b ts) σ (items b) vs
   reads-body end P h = reads-end P h
   reads-body (triple x y z b) P h = reads-triple P x (reads-slot y (reads-slot z (reads-body b atTriple h)))
   reads-body (tripleDot x y z b) P h = reads-triple P x (reads-slot y (reads-slot z (dot-triple (reads-body b atBody h))))
@@ -370,7 +371,7 @@ mutual
       reads-ENSURE P (reads-TRUST (reads-LPAREN (reads-bound l (reads-COMMA (reads-bound u (reads-RPAREN (h .element)))))))
 
   reads-unions : (us : Unions) {σ : List Symbol} {vs : Values σ} {ts : List Token} {is : List Item}
-      → After ts σ is vs → ReadsUnions (unions us ts) σ is vs us
+      → After ts σ is vs → ReadsUnions (unionsTokens us ts) σ is vs us
   reads-unions G.none h = unions-none (h .group)
   reads-unions (andUnion g us) h =
       let r = reads-unions us h in

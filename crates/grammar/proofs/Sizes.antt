@@ -19,7 +19,8 @@ use Rattle.grammar.specs.Grammar.{term, variable, Disjunction, conjuncts
 use Rattle.grammar.specs.Grammar.{Primary, negatable, equal, less, Negatable, bound, not, parens}
 use Rattle.grammar.specs.Grammar.{Body, end, triple, tripleDot, element, elementDot, Query, tokens}
 use Rattle.grammar.specs.Grammar.{Element, groups, optional, filter, trustAs, ensure, Unions, none, andUnion}
-use Rattle.grammar.specs.Grammar.{disjunction, conjunction, primary, negated, body, elementTokens, unions}
+use Rattle.grammar.specs.Grammar.{disjunctionTokens, conjunctionTokens, primaryTokens, negatableTokens}
+use Rattle.grammar.specs.Grammar.{bodyTokens, elementTokens, unionsTokens}
 use Rattle.grammar.specs.Meaning.{disjunctionOf, conjunctionOf, primaryOf, negatableOf}
 use Rattle.grammar.specs.Meaning.{Item, aTriple, aGroup, anOptional, aFilter, aProjection, aBound}
 use Rattle.grammar.specs.Meaning.{isEmptySet, joined, gathered, projected, bounded, filters, conjoined, filtered, condition}
@@ -30,27 +31,29 @@ use Rattle.grammar.specs.Meaning.{unfiltered, groupNode, items, itemOf, 
 mutual
   unfolding conditionBytes disjunctionOf
 
-  disjunction-size : (d : Disjunction) (k : List Token) → conditionSize (disjunctionOf d) + 4 * length k ≤ 4 * length (disjunction d k)
+  disjunction-size : (d : Disjunction) (k : List Token)
+      → conditionSize (disjunctionOf d) + 4 * length k ≤ 4 * length (disjunctionTokens d k)
   disjunction-size (conjuncts c) k = conjunction-size c k
   disjunction-size (either d c) k =
-      let h = disjunction-size d (mark OR ∷ conjunction c k) in
+      let h = disjunction-size d (mark OR ∷ conjunctionTokens c k) in
       let i = conjunction-size c k in
       omega (arith, length-append (conditionBytes (disjunctionOf d)) (conditionBytes (conjunctionOf c)))
 
-  conjunction-size : (c : Conjunction) (k : List Token) → conditionSize (conjunctionOf c) + 4 * length k ≤ 4 * length (conjunction c k)
+  conjunction-size : (c : Conjunction) (k : List Token)
+      → conditionSize (conjunctionOf c) + 4 * length k ≤ 4 * length (conjunctionTokens c k)
   conjunction-size (single p) k = primary-size p k
   conjunction-size (both c p) k =
-      let h = conjunction-size c (mark AND ∷ primary p k) in
+      let h = conjunction-size c (mark AND ∷ primaryTokens p k) in
       let i = primary-size p k in
       omega (arith, length-append (conditionBytes (conjunctionOf c)) (conditionBytes (primaryOf p)))
 
-  primary-size : (p : Primary) (k : List Token) → conditionSize (primaryOf p) + 4 * length k ≤ 4 * length (primary p k)
+  primary-size : (p : Primary) (k : List Token) → conditionSize (primaryOf p) + 4 * length k ≤ 4 * length (primaryTokens p k)
   primary-size (negatable n) k = negatable-size n k
   primary-size (equal v (term t)) k = omega arith
   primary-size (equal v (variable w)) k = omega arith
   primary-size (less v w) k = omega arith
 
-  negatable-size : (n : Negatable) (k : List Token) → conditionSize (negatableOf n) + 4 * length k ≤ 4 * length (negated n k)
+  negatable-size : (n : Negatable) (k : List Token) → conditionSize (negatableOf n) + 4 * length k ≤ 4 * length (negatableTokens n k)
   negatable-size (bound v) k = omega arith
   negatable-size (not n) k = let h = negatable-size n k in omega arith
   negatable-size (parens d) k = let h = disjunction-size d (mark RPAREN ∷ k) in omega arith
@@ -279,16 +282,16 @@ optional-size is = omega (arith, condition-size (filters is), unfiltered-size is
 mutual
   unfolding items costs cost joinCost projectCost boundCost filterCost
 
-  pub tree-size : {a : Bool} (b : Body a) (k : List Token) → costs (items b) + 4 + 4 * length k ≤ 4 * length (body b k)
+  pub tree-size : {a : Bool} (b : Body a) (k : List Token) → costs (items b) + 4 + 4 * length k ≤ 4 * length (bodyTokens b k)
   tree-size end k = omega arith
   tree-size (triple x y z b) k = let h = tree-size b k in omega arith
   tree-size (tripleDot x y z b) k = let h = tree-size b k in omega arith
-  tree-size (element e b) k = let h = tree-size b k in let g = element-size e (body b k) in omega arith
-  tree-size (elementDot e b) k = let h = tree-size b k in let g = element-size e (mark DOT ∷ body b k) in omega arith
+  tree-size (element e b) k = let h = tree-size b k in let g = element-size e (bodyTokens b k) in omega arith
+  tree-size (elementDot e b) k = let h = tree-size b k in let g = element-size e (mark DOT ∷ bodyTokens b k) in omega arith
 
   element-size : (e : Element) (k : List Token) → cost (itemOf e) + 4 * length k ≤ 4 * length (elementTokens e k)
   element-size (groups g us) k =
-      let h = tree-size g (unions us k) in
+      let h = tree-size g (unionsTokens us k) in
       let i = unions-size us (groupNode (items g)) k in
       omega (arith, group-size (items g))
   element-size (optional g) k = let h = tree-size g k in omega (arith, optional-size (items g))
@@ -296,10 +299,11 @@ mutual
   element-size (trustAs v) k = omega arith
   element-size (ensure l u) k = omega arith
 
-  unions-size : (us : Unions) (x : Node) (k : List Token) → nodeSize (united x us) + 4 * length k ≤ nodeSize x + 4 * length (unions us k)
+  unions-size : (us : Unions) (x : Node) (k : List Token)
+      → nodeSize (united x us) + 4 * length k ≤ nodeSize x + 4 * length (unionsTokens us k)
   unions-size none x k = omega arith
   unions-size (andUnion g us) x k =
-      let h = tree-size g (unions us k) in
+      let h = tree-size g (unionsTokens us k) in
       let i = unions-size us (union x (groupNode (items g))) k in
       omega (arith, group-size (items g), nodeSize-union x (groupNode (items g)))
 

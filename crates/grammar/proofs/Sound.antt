@@ -12,7 +12,7 @@ use lib.Dec.{eqb, leb}
 use lib.ListN.{getD}
 use borrow.Author.Tests.{eqb-true, eqb-false, leb-true}
 use Rattle.tsparql.proofs.ListLaws.{and-left, and-right}
-use Rattle.grammar.specs.Tokens.{Token, mark, var, num, neg, isWordOrNumber, endsWord, isCapital, isSpace}
+use Rattle.grammar.specs.Tokens.{Token, mark, var, num, neg, isWordOrNumber, isWordNumberOrVariable, isCapital, isSpace}
 use Rattle.grammar.specs.Tokens.{Written, done, space}
 use Rattle.grammar.specs.Automaton.{Symbol, Entry, marks, vars, terms, isBound, Kind, kNum, kNeg, tokenOf}
 use Rattle.grammar.specs.Automaton.{State, gap, inMark, first, inNumber, Move, stop, go, prepend, digit, find, within, rest}
@@ -46,7 +46,7 @@ find-mem b (e ∷ es) P n f =
 module _ (a : Bool) (X : Symbol) (σ : List Symbol) (b : ℕ) where
   -- a token at its first byte: that it may come, and how it is written
   back-token : {us : List Token} {s : List ℕ} {ts : List Token} (t : Token) (u r : List ℕ) {α : List Symbol} → us ≡ t ∷ ts → Step X t α
-      → Accepts (α ++ σ) ts → (a && isWordOrNumber t) ≡ false → Spells t u → b ∷ s ≡ u ++ r → Written (endsWord t) ts r
+      → Accepts (α ++ σ) ts → (a && isWordOrNumber t) ≡ false → Spells t u → b ∷ s ≡ u ++ r → Written (isWordNumberOrVariable t) ts r
       → Rest (gap a (X ∷ σ)) us (b ∷ s)
   back-token {us} {s} t u r e st x h sp q w = (
     subst⁻¹ (Accepts (X ∷ σ)) e (then st x),

@@ -9,7 +9,7 @@ use native.Mathlib.Nat.{le-refl}
 use lib.Dec.{leb}
 use borrow.Author.Tests.{leb-true, le-leb}
 use Rattle.tsparql.proofs.ListLaws.{and-left, and-right}
-use Rattle.grammar.specs.Tokens.{Token, isWordOrNumber, endsWord}
+use Rattle.grammar.specs.Tokens.{Token, isWordOrNumber, isWordNumberOrVariable}
 use Rattle.grammar.specs.Tokens.{Written, token}
 use Rattle.grammar.specs.Automaton.{Symbol, Kind, tokenOf}
 use Rattle.grammar.specs.Automaton.{State, gap, inMark, first, inNumber, digit}
@@ -26,7 +26,7 @@ pub record InMark (w : List ℕ) (t : Token) (σ : List Symbol) (ts : List Token
   pub bytes : s ≡ w ++ tail
   pub same : ts ≡ t ∷ tokens
   pub accepts : Accepts σ tokens
-  pub written : Written (endsWord t) tokens tail
+  pub written : Written (isWordNumberOrVariable t) tokens tail
 
 -- Digs says which digits give which value
 pub record InNumber (l u : ℕ) (Digs : List ℕ → ℕ → Type 0) (k : Kind) (σ : List Symbol) (ts : List Token) (s : List ℕ) : Type 0 where
@@ -75,7 +75,7 @@ ended u v k σ ts s h x y =
 
 -- a token by its bytes, digit by digit
 pub spelled : {a : Bool} {ts : List Token} {s : List ℕ} (t : Token) (u r : List ℕ) → (a && isWordOrNumber t) ≡ false → Spells t u
-    → s ≡ u ++ r → Written (endsWord t) ts r → Written a (t ∷ ts) s
+    → s ≡ u ++ r → Written (isWordNumberOrVariable t) ts r → Written a (t ∷ ts) s
 spelled t u r h sp q w = token t r h (q ∙ ap (λ (l : List ℕ). l ++ r) (spells-spelling sp)) w
 
 -- ---- digits

@@ -14,7 +14,8 @@ use Rattle.grammar.specs.Grammar.{Disjunction, conjuncts, either, Conjun
 use Rattle.grammar.specs.Grammar.{Primary, negatable, equal, less, Negatable, bound, not, parens}
 use Rattle.grammar.specs.Grammar.{Body, end, triple, tripleDot, element, elementDot, Query, tokens}
 use Rattle.grammar.specs.Grammar.{Element, groups, optional, filter, trustAs, ensure, Unions, andUnion}
-use Rattle.grammar.specs.Grammar.{disjunction, conjunction, primary, negated, body, elementTokens, unions}
+use Rattle.grammar.specs.Grammar.{disjunctionTokens, conjunctionTokens, primaryTokens, negatableTokens}
+use Rattle.grammar.specs.Grammar.{bodyTokens, elementTokens, unionsTokens}
 use Rattle.grammar.specs.Grammar.{slotToken, variableToken, thousandthsToken}
 use Rattle.grammar.specs.Grammar as G
 use Rattle.grammar.specs.Automaton.{Symbol, sBody, sAfterTriple, sAfterElement, sAfterGroup, sSlot, sVar, sBound}
@@ -33,8 +34,8 @@ data Tail : Type 0 where
 
 abbrev tailTokens : Tail → List Token → List Token
 tailTokens closed k = mark T.RPAREN ∷ k
-tailTokens (andThen p t) k = mark T.AND ∷ primary p (tailTokens t k)
-tailTokens (orThen p t) k = mark T.OR ∷ primary p (tailTokens t k)
+tailTokens (andThen p t) k = mark T.AND ∷ primaryTokens p (tailTokens t k)
+tailTokens (orThen p t) k = mark T.OR ∷ primaryTokens p (tailTokens t k)
 
 attached : (Conjunction → Disjunction) → Conjunction → Tail → Disjunction
 attached f c closed = f c
@@ -42,20 +43,21 @@ attached f c (andThen p t) = attached f (both c p) t
 attached f c (orThen p t) = attached (either (f c)) (single p) t
 
 attached-tokens : (f : Conjunction → Disjunction) (pre : List Token → List Token)
-    → ((c : Conjunction) (k : List Token) → disjunction (f c) k ≡ pre (conjunction c k))
+    → ((c : Conjunction) (k : List Token) → disjunctionTokens (f c) k ≡ pre (conjunctionTokens c k))
     → (c : Conjunction) (t : Tail) (k : List Token)
-    → disjunction (attached f c t) (mark T.RPAREN ∷ k) ≡ pre (conjunction c (tailTokens t k))
+    → disjunctionTokens (attached f c t) (mark T.RPAREN ∷ k) ≡ pre (conjunctionTokens c (tailTokens t k))
 unfolding attached
 attached-tokens f pre h c closed k = h c (mark T.RPAREN ∷ k)
 attached-tokens f pre h c (andThen p t) k = attached-tokens f pre h (both c p) t k
 attached-tokens f pre h c (orThen p t) k =
-    attached-tokens (either (f c)) (λ (l : List Token). disjunction (f c) (mark T.OR ∷ l)) (λ d l. refl) (single p) t k
-    ∙ h c (mark T.OR ∷ primary p (tailTokens t k))
+    attached-tokens (either (f c)) (λ (l : List Token). disjunctionTokens (f c) (mark T.OR ∷ l)) (λ d l. refl) (single p) t k
+    ∙ h c (mark T.OR ∷ primaryTokens p (tailTokens t k))
 
 inParens : Primary → Tail → Disjunction
 inParens p t = attached conjuncts (single p) t
 
-inParens-tokens : (p : Primary) (t : Tail) (k : List Token) → disjunction (inParens p t) (mark T.RPAREN ∷ k) ≡ primary p (tailTokens t k)
+inParens-tokens : (p : Primary) (t : Tail) (k : List Token)
+    → disjunctionTokens (inParens p t) (mark T.RPAREN ∷ k) ≡ primaryTokens p (tailTokens t k)
 unfolding inParens
 inParens-tokens p t k = attached-tokens conjuncts (λ (l : List Token). l) (λ c l. refl) (single p) t k
 
@@ -69,8 +71,8 @@ abbrev AfterElement : Type 0
 AfterElement = Body true ⊎ Body true
 
 abbrev dotted : {m : Bool} → Body true ⊎ Body m → List Token → List Token
-dotted (inl b) k = mark T.DOT ∷ body b k
-dotted (inr b) k = body b k
+dotted (inl b) k = mark T.DOT ∷ bodyTokens b k
+dotted (inr b) k = bodyTokens b k
 
 -- the tree that a symbol stands for
 abbrev Val : Symbol → Type 0
@@ -97,15 +99,15 @@ relation (inl s) k = mark T.EQUAL ∷ slotToken s ∷ k
 relation (inr v) k = mark T.LESS ∷ variableToken v ∷ k
 
 abbrev yield : (X : Symbol) → Val X → List Token → List Token
-yield sBody b k = body b k
+yield sBody b k = bodyTokens b k
 yield sAfterTriple x k = dotted x k
 yield sAfterElement x k = dotted x k
-yield sAfterGroup x k = unions (x .0) (dotted (x .1) k)
+yield sAfterGroup x k = unionsTokens (x .0) (dotted (x .1) k)
 yield sSlot s k = slotToken s ∷ k
 yield sVar v k = variableToken v ∷ k
 yield sBound x k = thousandthsToken x ∷ k
-yield sPrimary p k = primary p k
-yield sNegatable n k = negated n k
+yield sPrimary p k = primaryTokens p k
+yield sNegatable n k = negatableTokens n k
 yield sRelation r k = relation r k
 yield sTail t k = tailTokens t k
 yield sLBrace x k = mark T.LBRACE ∷ k
@@ -130,7 +132,7 @@ abbrev Built : Symbol → List Symbol → List Token → Type 0
 Built X σ ts = (v : Val X) × (vs : Vals σ) × (yield X v (yields σ vs) ≡ ts)
 
 abbrev BuiltBody : Bool → List Symbol → List Token → Type 0
-BuiltBody m σ ts = (b : Body m) × (vs : Vals σ) × (body b (yields σ vs) ≡ ts)
+BuiltBody m σ ts = (b : Body m) × (vs : Vals σ) × (bodyTokens b (yields σ vs) ≡ ts)
 
 abbrev FromMark : Symbol → List Symbol → Entry → Type 0
 FromMark X σ e = (vs : Vals (e .1 ++ σ)) → Built X σ (mark (e .0) ∷ yields (e .1 ++ σ) vs)
@@ -142,7 +144,7 @@ put : {m : Bool} → Element → AfterElement → Body m
 put e (inl b) = elementDot e b
 put e (inr b) = element e b
 
-put-tokens : (m : Bool) (e : Element) (x : AfterElement) (k : List Token) → body (put {m = m} e x) k ≡ elementTokens e (dotted x k)
+put-tokens : (m : Bool) (e : Element) (x : AfterElement) (k : List Token) → bodyTokens (put {m = m} e x) k ≡ elementTokens e (dotted x k)
 unfolding put
 put-tokens m e (inl b) k = refl
 put-tokens m e (inr b) k = refl
@@ -241,7 +243,7 @@ tripleOf y z (inl b) x = tripleDot x y z b
 tripleOf y z (inr b) x = triple x y z b
 
 tripleOf-tokens : (x y z : Slot) (r : AfterTriple) (k : List Token)
-    → body (tripleOf y z r x) k ≡ slotToken x ∷ slotToken y ∷ slotToken z ∷ dotted r k
+    → bodyTokens (tripleOf y z r x) k ≡ slotToken x ∷ slotToken y ∷ slotToken z ∷ dotted r k
 unfolding tripleOf
 tripleOf-tokens x y z (inl b) k = refl
 tripleOf-tokens x y z (inr b) k = refl
@@ -270,7 +272,7 @@ varsBuilt sPrimary σ v = λ vs. (related v (vs .0), vs .1, related-tokens v (vs
     related v (inl s) = equal v s
     related v (inr w) = less v w
 
-    related-tokens : (v : Variable) (r : Slot ⊎ Variable) (k : List Token) → primary (related v r) k ≡ variableToken v ∷ relation r k
+    related-tokens : (v : Variable) (r : Slot ⊎ Variable) (k : List Token) → primaryTokens (related v r) k ≡ variableToken v ∷ relation r k
     related-tokens v (inl s) k = refl
     related-tokens v (inr w) k = refl
 varsBuilt sNegatable σ v = tt

@@ -8,16 +8,20 @@ use mathlib.Core.Option.{Option, none, some}
 use Prim.Native.Nat.{ℕ, suc, _+_, _*_, _-_}
 use lib.Dec.{eqb, leb}
 use lib.ListN.{getD}
-use Rattle.grammar.specs.Tokens.{Token, mark, var, num, neg, isSpace, isCapital, endsWord}
+use Rattle.grammar.specs.Tokens.{Token, mark, var, num, neg, isSpace, isCapital, isWordNumberOrVariable}
 use Rattle.grammar.specs.Tokens as T
 
 -- ---- what has still to come
 
--- the parts of the grammar that a stack holds; sTail is what follows in parentheses after a primary, sRelation what follows its variable
+-- what a stack holds
 pub data Symbol : Type 0 where
+  -- a body, and what may follow a triple, an element, a group in one
   sBody sAfterTriple sAfterElement sAfterGroup : Symbol
+  -- a slot, a variable, a number of thousandths
   sSlot sVar sBound : Symbol
+  -- parts of a condition; after the variable that begins one; after a primary, up to the closing parenthesis
   sPrimary sNegatable sRelation sTail : Symbol
+  -- one fixed token
   sLBrace sLParen sRParen sComma sAS sTRUST : Symbol
 
 -- a fixed token, and what has to come after it
@@ -126,9 +130,9 @@ abbrev pub find : ℕ → List Entry → Option Entry
 find b [] = none
 find b (e ∷ es) = cond (eqb b (getD (e .0) 0 0)) (some e) (find b es)
 
--- so many bytes of a fixed token are left
+-- inside a fixed token, of which these bytes are left
 abbrev pub within : List ℕ → Token → List Symbol → Move
-within [] t σ = go (t ∷ []) (gap (endsWord t) σ)
+within [] t σ = go (t ∷ []) (gap (isWordNumberOrVariable t) σ)
 within (c ∷ w) t σ = go [] (inMark c w t σ)
 
 abbrev pub rest : List ℕ → List ℕ

@@ -1,6 +1,7 @@
 -- The grammar of typed queries (request 6): derivations as trees, the tokens of a tree, and which texts have a derivation. No reader is
--- mentioned here. The rules stand in front of the trees, a constructor for each of their cases. `rest` is what follows a part's
--- tokens. The dots are those of SPARQL (2008), whose own rules are in Sparql. Assumes nothing.
+-- mentioned here. The rules stand in front of their trees: numbers are records, with their ranges; of the other rules each case is a
+-- constructor, but Query and Group are a body, and Triple is part of one. `rest` is what follows the tokens of a part. The dots are those
+-- of SPARQL (2008), whose own rules are in Sparql. Assumes nothing.
 use mathlib.Core.Bool.{Bool, true, false}
 use mathlib.Core.List.{List, [], _∷_, _++_}
 use Prim.Native.Nat.{ℕ, _≤_}
@@ -99,43 +100,43 @@ thousandthsToken (plus n h) = num n
 thousandthsToken (minus n l h) = neg n
 
 abbrev mutual
-  pub disjunction : Disjunction → List Token → List Token
-  disjunction (conjuncts c) rest = conjunction c rest
-  disjunction (either d c) rest = disjunction d (mark OR ∷ conjunction c rest)
+  pub disjunctionTokens : Disjunction → List Token → List Token
+  disjunctionTokens (conjuncts c) rest = conjunctionTokens c rest
+  disjunctionTokens (either d c) rest = disjunctionTokens d (mark OR ∷ conjunctionTokens c rest)
 
-  pub conjunction : Conjunction → List Token → List Token
-  conjunction (single p) rest = primary p rest
-  conjunction (both c p) rest = conjunction c (mark AND ∷ primary p rest)
+  pub conjunctionTokens : Conjunction → List Token → List Token
+  conjunctionTokens (single p) rest = primaryTokens p rest
+  conjunctionTokens (both c p) rest = conjunctionTokens c (mark AND ∷ primaryTokens p rest)
 
-  pub primary : Primary → List Token → List Token
-  primary (negatable n) rest = negated n rest
-  primary (equal v s) rest = variableToken v ∷ mark EQUAL ∷ slotToken s ∷ rest
-  primary (less v w) rest = variableToken v ∷ mark LESS ∷ variableToken w ∷ rest
+  pub primaryTokens : Primary → List Token → List Token
+  primaryTokens (negatable n) rest = negatableTokens n rest
+  primaryTokens (equal v s) rest = variableToken v ∷ mark EQUAL ∷ slotToken s ∷ rest
+  primaryTokens (less v w) rest = variableToken v ∷ mark LESS ∷ variableToken w ∷ rest
 
-  pub negated : Negatable → List Token → List Token
-  negated (bound v) rest = mark BOUND ∷ mark LPAREN ∷ variableToken v ∷ mark RPAREN ∷ rest
-  negated (not n) rest = mark NOT ∷ negated n rest
-  negated (parens d) rest = mark LPAREN ∷ disjunction d (mark RPAREN ∷ rest)
+  pub negatableTokens : Negatable → List Token → List Token
+  negatableTokens (bound v) rest = mark BOUND ∷ mark LPAREN ∷ variableToken v ∷ mark RPAREN ∷ rest
+  negatableTokens (not n) rest = mark NOT ∷ negatableTokens n rest
+  negatableTokens (parens d) rest = mark LPAREN ∷ disjunctionTokens d (mark RPAREN ∷ rest)
 
 abbrev mutual
-  pub body : {a : Bool} → Body a → List Token → List Token
-  body end rest = mark RBRACE ∷ rest
-  body (triple x y z b) rest = slotToken x ∷ slotToken y ∷ slotToken z ∷ body b rest
-  body (tripleDot x y z b) rest = slotToken x ∷ slotToken y ∷ slotToken z ∷ mark DOT ∷ body b rest
-  body (element e b) rest = elementTokens e (body b rest)
-  body (elementDot e b) rest = elementTokens e (mark DOT ∷ body b rest)
+  pub bodyTokens : {a : Bool} → Body a → List Token → List Token
+  bodyTokens end rest = mark RBRACE ∷ rest
+  bodyTokens (triple x y z b) rest = slotToken x ∷ slotToken y ∷ slotToken z ∷ bodyTokens b rest
+  bodyTokens (tripleDot x y z b) rest = slotToken x ∷ slotToken y ∷ slotToken z ∷ mark DOT ∷ bodyTokens b rest
+  bodyTokens (element e b) rest = elementTokens e (bodyTokens b rest)
+  bodyTokens (elementDot e b) rest = elementTokens e (mark DOT ∷ bodyTokens b rest)
 
   pub elementTokens : Element → List Token → List Token
-  elementTokens (groups g us) rest = mark LBRACE ∷ body g (unions us rest)
-  elementTokens (optional g) rest = mark OPTIONAL ∷ mark LBRACE ∷ body g rest
-  elementTokens (filter d) rest = mark FILTER ∷ mark LPAREN ∷ disjunction d (mark RPAREN ∷ rest)
+  elementTokens (groups g us) rest = mark LBRACE ∷ bodyTokens g (unionsTokens us rest)
+  elementTokens (optional g) rest = mark OPTIONAL ∷ mark LBRACE ∷ bodyTokens g rest
+  elementTokens (filter d) rest = mark FILTER ∷ mark LPAREN ∷ disjunctionTokens d (mark RPAREN ∷ rest)
   elementTokens (trustAs v) rest = mark TRUST ∷ mark AS ∷ variableToken v ∷ rest
   elementTokens (ensure l u) rest =
       mark ENSURE ∷ mark TRUST ∷ mark LPAREN ∷ thousandthsToken l ∷ mark COMMA ∷ thousandthsToken u ∷ mark RPAREN ∷ rest
 
-  pub unions : Unions → List Token → List Token
-  unions none rest = rest
-  unions (andUnion g us) rest = mark UNION ∷ mark LBRACE ∷ body g (unions us rest)
+  pub unionsTokens : Unions → List Token → List Token
+  unionsTokens none rest = rest
+  unionsTokens (andUnion g us) rest = mark UNION ∷ mark LBRACE ∷ bodyTokens g (unionsTokens us rest)
 
 -- ---- derivations
 
@@ -144,7 +145,7 @@ abbrev pub Query : Type 0
 Query = Body true
 
 abbrev pub tokens : Query → List Token
-tokens q = mark LBRACE ∷ body q []
+tokens q = mark LBRACE ∷ bodyTokens q []
 
 -- q is a derivation of the text s
 abbrev pub Derives : Query → List ℕ → Type 0

@@ -82,8 +82,8 @@ isEmptySet (ensureTrust l u x) = false
 abbrev pub joined : Node → Node → Node
 joined x y = cond (isEmptySet x) y (cond (isEmptySet y) x (join x y))
 
--- The elements joined from left to right: x is what is joined so far, run the triples since the last braces. A sixteenth triple begins a
--- new set; an OPTIONAL is left-joined to all before it; filters, projections and bounds do not end a run.
+-- What the items of a group join to: x is what is joined so far, run the triples of the set that is still open. A set closes at fifteen
+-- triples, at a group and at an OPTIONAL, which takes all that was joined before it as its left operand; nothing else closes it.
 unfoldable pub gathered : Node → List Pattern → List Item → Node
 gathered x run [] = joined x (patternSet run)
 gathered x run (aTriple p ∷ is) =

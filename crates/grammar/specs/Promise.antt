@@ -1,5 +1,5 @@
--- What the call that reads a typed query answers, in the words of the grammar alone (request 6): no reader is mentioned here. That
--- `readText` keeps it is proved (proofs/TextCalls). Assumes nothing.
+-- What the call that reads a typed query answers, in the words of the grammar alone (request 6): whatever way it reads. That the call
+-- defined in ReadText keeps it is proved (proofs/TextCalls). Assumes nothing.
 use mathlib.Core.Path.{_≡_}
 use mathlib.Core.List.{List}
 use mathlib.Core.Logic.{_⊎_}
@@ -14,7 +14,7 @@ use Rattle.grammar.specs.Meaning.{meaningBytes}
 abbrev pub textLimit : ℕ
 textLimit = 4096
 
--- p is the length of the longest start of s that some text with a derivation shares
+-- the first p bytes of s begin a text that has a derivation, and no more of them do
 pub record LongestStart (s : List ℕ) (p : ℕ) : Type 0 where
   pub inside : p ≤ length s
   pub viable : Viable (take p s)
@@ -34,7 +34,7 @@ pub record Promise (s out : List ℕ) (a : Rewritten) : Type 0 where
   -- else these bytes at the front of the output
   pub derived :
       length s ≤ textLimit → (q : Query) → Derives q s → length (meaningBytes q) ≤ length out → a ≡ wroteInto (meaningBytes q) out
-  -- a text is accepted only if it has a derivation
+  -- no text without a derivation passes
   pub accepted : Passes (a .refusal) → (q : Query) × Derives q s
   -- every text has a derivation or has none
   pub either : ((q : Query) × Derives q s) ⊎ Underivable s

@@ -19,7 +19,7 @@ abbrev pub nodeOr : Option Node → Node
 nodeOr none = patternSet []
 nodeOr (some q) = q
 
--- the query bytes of a text that has a derivation
+-- the query bytes of a text that has a derivation; of any other, which is never written, those of the empty set
 unfoldable pub textBytes : List ℕ → List ℕ
 textBytes s = nodeBytes (nodeOr (textNode s))
 

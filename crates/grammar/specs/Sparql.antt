@@ -4,8 +4,8 @@
 --   [22] GraphPatternNotTriples   ::= OptionalGraphPattern | GroupOrUnionGraphPattern | GraphGraphPattern
 --   [23] OptionalGraphPattern     ::= 'OPTIONAL' GroupGraphPattern
 --   [25] GroupOrUnionGraphPattern ::= GroupGraphPattern ( 'UNION' GroupGraphPattern )*
--- Ours are the triples, the filters, and TRUST AS and ENSURE TRUST where a filter may stand; there is no GraphGraphPattern. That these
--- groups and those of Grammar have the same tokens is proved both ways (proofs/Dots). Assumes nothing.
+-- For TriplesSameSubject one triple stands, and for Filter those of Grammar, with TRUST AS and ENSURE TRUST beside them; there is no
+-- GraphGraphPattern. That these groups and those of Grammar have the same tokens is proved both ways (proofs/Dots). Assumes nothing.
 use mathlib.Core.Bool.{Bool, true, false}
 use mathlib.Core.List.{List, [], _∷_}
 use mathlib.Core.Option.{Option, none, some}
@@ -62,7 +62,7 @@ abbrev pub optionalDot : Bool → List Token → List Token
 optionalDot true rest = mark DOT ∷ rest
 optionalDot false rest = rest
 
--- a filter's tokens are ours
+-- the tokens of a filter are those of Grammar
 abbrev pub filterTokens : Filter → List Token → List Token
 filterTokens (filter d) rest = elementTokens (G.filter d) rest
 filterTokens (trustAs v) rest = elementTokens (G.trustAs v) rest

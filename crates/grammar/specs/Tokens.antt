@@ -84,19 +84,19 @@ spelling (neg n) = ascii "-" ++ decimal n
 abbrev pub isCapital : ℕ → Bool
 isCapital b = leb 65 b && leb b 90
 
--- a word (keywords begin with a capital, signs do not) or a number
+-- a word or a number: keywords begin with a capital, signs do not
 abbrev pub isWordOrNumber : Token → Bool
 isWordOrNumber (mark w) = isCapital (getD w 0 0)
 isWordOrNumber (var n) = false
 isWordOrNumber (num n) = true
 isWordOrNumber (neg n) = true
 
--- a word, a number or a variable
-abbrev pub endsWord : Token → Bool
-endsWord (mark w) = isCapital (getD w 0 0)
-endsWord (var n) = true
-endsWord (num n) = true
-endsWord (neg n) = true
+-- the same, or a variable
+abbrev pub isWordNumberOrVariable : Token → Bool
+isWordNumberOrVariable (mark w) = isCapital (getD w 0 0)
+isWordNumberOrVariable (var n) = true
+isWordNumberOrVariable (num n) = true
+isWordNumberOrVariable (neg n) = true
 
 -- ---- white space
 
@@ -111,4 +111,4 @@ pub data Written : Bool → List Token → List ℕ → Type 0 where
   space : {a : Bool} {ts : List Token} {s : List ℕ} (b : ℕ) → isSpace b ≡ true → Written false ts s → Written a ts (b ∷ s)
   token :
       {a : Bool} {ts : List Token} {s : List ℕ} (t : Token) (rest : List ℕ) → (a && isWordOrNumber t) ≡ false → s ≡ spelling t ++ rest
-      → Written (endsWord t) ts rest → Written a (t ∷ ts) s
+      → Written (isWordNumberOrVariable t) ts rest → Written a (t ∷ ts) s
