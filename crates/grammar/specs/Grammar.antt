@@ -1,7 +1,7 @@
 -- The grammar of typed queries (request 6): derivations as trees, the tokens of a tree, and which texts have a derivation. No reader is
--- mentioned here. The rules stand in front of their trees: numbers are records, with their ranges; of the other rules each case is a
--- constructor, but Query and Group are a body, and Triple is part of one. `rest` is what follows the tokens of a part. The dots are those
--- of SPARQL (2008), whose own rules are in Sparql. Assumes nothing.
+-- mentioned here. The rules stand in front of their trees: numbers carry their ranges; of the other rules each case is a constructor, but
+-- Query and Group are a body, and Triple is part of one. `rest` is what follows the tokens of a part. The dots are those of SPARQL (2008),
+-- whose own rules are in Sparql. Assumes nothing.
 use mathlib.Core.Bool.{Bool, true, false}
 use mathlib.Core.List.{List, [], _∷_, _++_}
 use Prim.Native.Nat.{ℕ, _≤_}

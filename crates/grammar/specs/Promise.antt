@@ -1,5 +1,5 @@
--- What the call that reads a typed query answers, in the words of the grammar alone (request 6): whatever way it reads. That the call
--- defined in ReadText keeps it is proved (proofs/TextCalls). Assumes nothing.
+-- What the call that reads a typed query answers (request 6), in the words of the grammar alone and however it reads. That the call defined
+-- in ReadText keeps it is proved (proofs/TextCalls). Assumes nothing.
 use mathlib.Core.Path.{_≡_}
 use mathlib.Core.List.{List}
 use mathlib.Core.Logic.{_⊎_}
