@@ -2,7 +2,9 @@
 -- stands for (`forth`). Assumes nothing.
 use mathlib.Core.Path.{_≡_, refl, sym, ap, _∙_, subst, subst⁻¹}
 use mathlib.Core.Bool.{Bool, true, false, _&&_, false≢true}
+use mathlib.Core.Bool as B
 use mathlib.Core.List.{List, [], _∷_, _++_, List·Memᴰ}
+use mathlib.Core.List.{nil≢cons, head-eq-of-cons-eq as head-eq, tail-eq-of-cons-eq as tail-eq}
 use mathlib.Core.Option.{none, some}
 use Prim.Native.Nat.{ℕ, suc, _+_, _*_, _-_, _≤_}
 use native.Mathlib.Omega.{arith}
@@ -19,7 +21,6 @@ use Rattle.grammar.proofs.Numerals.{IsDigit, Digits, more, Numeral, num
 use Rattle.grammar.proofs.Numerals.{Spells, ofMark, ofVar, ofNum, ofNeg, spelling-spells}
 use Rattle.grammar.proofs.Numerals as N
 use Rattle.grammar.proofs.TableFacts.{fact-of}
-use Rattle.grammar.proofs.Basics.{and-false-left, head-eq, tail-eq, no-bytes}
 use Rattle.grammar.proofs.States.{InMark, Rest, Good, is-digit}
 use Rattle.grammar.proofs.Sound.{Back, back}
 
@@ -136,7 +137,7 @@ forth-token a {X} σ {α = α} ts u r b s (byTerm n l m e f) (ofNum (numeral {w 
     let k : b ≡ c = head-eq q in
     let z : c ≡ 48 → ⊥ = λ i. not-zero c n w i g l in
     forth-in (inNumber 1048575 (b - 48) kNum (α ++ σ))
-    (at-term a X σ b α (subst⁻¹ IsDigit k d) (λ i. z (sym k ∙ i)) f e (and-false-left a h))
+    (at-term a X σ b α (subst⁻¹ IsDigit k d) (λ i. z (sym k ∙ i)) f e (sym (B.and-true a) ∙ h))
     (in-number 1048575 (α ++ σ) b c s w r n ts q g m x y)
   where
     not-zero : (c n : ℕ) (w : List ℕ) → c ≡ 48 → Digits (c - 48) w n → 1 ≤ n → ⊥
@@ -144,10 +145,10 @@ forth-token a {X} σ {α = α} ts u r b s (byTerm n l m e f) (ofNum (numeral {w 
         let z = no-leading (subst (λ (k : ℕ). Digits (k - 48) w n) i g) .0 in
         omega arith
 forth-token a {X} σ ts u r b s (byPlus n m e) (ofNum (numeral {w = w} c d g)) h q x y =
-    forth-in (inNumber 1000 (b - 48) kNum σ) (at-bound a X σ b (subst⁻¹ IsDigit (head-eq q) d) e (and-false-left a h))
+    forth-in (inNumber 1000 (b - 48) kNum σ) (at-bound a X σ b (subst⁻¹ IsDigit (head-eq q) d) e (sym (B.and-true a) ∙ h))
     (in-number 1000 σ b c s w r n ts q g m x y)
 forth-token a {X} σ ts u r b s (byMinus n l m e) (ofNeg {w = w} d) h q x y =
-    forth-in (first 1 1000 kNeg σ) (at-minus a X σ b (head-eq q) e (and-false-left a h))
+    forth-in (first 1 1000 kNeg σ) (at-minus a X σ b (head-eq q) e (sym (B.and-true a) ∙ h))
     (before-number 1 1000 kNeg σ s w r n ts (tail-eq q) d l m x y)
 
 forth-gap : (a : Bool) (σ : List Symbol) {ts : List Token} (b : ℕ) (s : List ℕ) → Accepts σ ts → Written a ts (b ∷ s)
@@ -270,11 +271,11 @@ forth (inNumber u v k σ) ts b s g r =
 
 -- a token that may come has a byte
 pub token-bytes : {X : Symbol} {t : Token} {α : List Symbol} {B : Type 0} (u r : List ℕ) → Step X t α → Spells t u → [] ≡ u ++ r → B
-token-bytes {X} u r (byMark w α m) ofMark q = no-bytes (q ∙ ap (λ (l : List ℕ). l ++ r) (fact-of X m .begins))
-token-bytes u r (byVar n l e) (ofVar d) q = no-bytes q
-token-bytes u r (byTerm n l m e f) (ofNum (numeral b d g)) q = no-bytes q
-token-bytes u r (byPlus n m e) (ofNum (numeral b d g)) q = no-bytes q
-token-bytes u r (byMinus n l m e) (ofNeg d) q = no-bytes q
+token-bytes {X} u r (byMark w α m) ofMark q = absurd (nil≢cons (q ∙ ap (λ (l : List ℕ). l ++ r) (fact-of X m .begins)))
+token-bytes u r (byVar n l e) (ofVar d) q = absurd (nil≢cons q)
+token-bytes u r (byTerm n l m e f) (ofNum (numeral b d g)) q = absurd (nil≢cons q)
+token-bytes u r (byPlus n m e) (ofNum (numeral b d g)) q = absurd (nil≢cons q)
+token-bytes u r (byMinus n l m e) (ofNeg d) q = absurd (nil≢cons q)
 
 -- no bytes write nothing
 nothing : {a : Bool} (σ : List Symbol) (ts : List Token) → Accepts σ ts → Written a ts [] → (σ ≡ []) × (ts ≡ [])
@@ -286,14 +287,14 @@ ended-number : (u v : ℕ) (k : Kind) (σ : List Symbol) (n : ℕ) (ts : List To
 ended-number u v k σ n ts m w r us q e N.none x y =
     let z = nothing σ us x (subst⁻¹ (Written true us) q y) in
     rw (z .0) (ap accepted (sym (e ∙ ap (λ (l : List Token). tokenOf k v ∷ l) (z .1))))
-ended-number u v k σ n ts m w r us q e (more b l d g) x y = no-bytes q
+ended-number u v k σ n ts m w r us q e (more b l d g) x y = absurd (nil≢cons q)
 
 ended-first : (n m : ℕ) (ts : List Token) (w r : List ℕ) → [] ≡ w ++ r → Numeral m w → fault n ≡ accepted ts
-ended-first n m ts w r q (numeral b d g) = no-bytes q
+ended-first n m ts w r q (numeral b d g) = absurd (nil≢cons q)
 
 complete-end : (st : State) (n : ℕ) (ts : List Token) → Rest st ts [] → finish n st ≡ accepted ts
 complete-end (gap a σ) n ts r = let z = nothing σ ts (r .0) (r .1) in rw (z .0) (ap accepted (sym (z .1)))
-complete-end (inMark c w t σ) n ts r = no-bytes (r .bytes)
+complete-end (inMark c w t σ) n ts r = absurd (nil≢cons (r .bytes))
 complete-end (first l u k σ) n ts r = ended-first n (r .value) ts (r .digits) (r .tail) (r .bytes) (r .reads)
 complete-end (inNumber u v k σ) n ts r =
     ended-number u v k σ n ts (r .value) (r .digits) (r .tail) (r .tokens) (r .bytes) (r .same) (r .reads) (r .accepts) (r .written)

@@ -10,7 +10,7 @@ use native.Mathlib.Omega.{arith}
 use native.Mathlib.Nat.{le-trans}
 use lib.Dec.{eqb, leb}
 use lib.ListN.{getD}
-use borrow.Author.Tests.{eqb-true, eqb-false, leb-true}
+use borrow.Author.Tests.{eqb-true, eqb-false, leb-true, not-true}
 use Rattle.tsparql.proofs.ListLaws.{and-left, and-right}
 use Rattle.grammar.specs.Tokens.{Token, mark, var, num, neg, isWordOrNumber, isWordNumberOrVariable, isCapital, isSpace}
 use Rattle.grammar.specs.Tokens.{Written, done, space}
@@ -21,7 +21,7 @@ use Rattle.grammar.proofs.Accepts.{Step, byMark, byVar, byTerm, byPlus,
 use Rattle.grammar.proofs.Numerals.{IsDigit, Digits, more, numeral}
 use Rattle.grammar.proofs.Numerals.{Spells, ofMark, ofVar, ofNum, ofNeg}
 use Rattle.grammar.proofs.TableFacts.{Begins, fact-of}
-use Rattle.grammar.proofs.Basics.{cond-cases, and-true-false, not-true}
+use Rattle.grammar.proofs.Basics.{cond-cases}
 use Rattle.grammar.proofs.States.{InMark, InNumber, Rest, Good, ended, spelled, digit-true}
 
 -- ---- back: before a move stands what stands after it, and the byte
@@ -77,14 +77,14 @@ module _ (a : Bool) (X : Symbol) (σ : List Symbol) (b : ℕ) where
       let i = not-true a (and-right (isBound X) (B.not a) e) in (
         (omega arith, omega arith),
         λ us s r. back-token (neg (r .value)) (45 ∷ r .digits) (r .tail) (r .same) (byMinus (r .value) (r .least) (r .most) h)
-            (r .accepts) (and-true-false a i) (ofNeg (r .reads)) (cc (r .bytes)) (r .written),
+            (r .accepts) (B.and-true a ∙ i) (ofNeg (r .reads)) (cc (r .bytes)) (r .written),
       )
 
   -- a number at its first digit
   back-num : {us : List Token} {s : List ℕ} (l u : ℕ) {α : List Symbol} → IsDigit b → a ≡ false
       → (r : InNumber l u (λ w n. Digits (b - 48) w n) kNum (α ++ σ) us s) → Step X (num (r .value)) α → Rest (gap a (X ∷ σ)) us (b ∷ s)
   back-num l u d q r st =
-      back-token (num (r .value)) (b ∷ r .digits) (r .tail) (r .same) st (r .accepts) (and-true-false a q) (ofNum (numeral b d (r .reads)))
+      back-token (num (r .value)) (b ∷ r .digits) (r .tail) (r .same) st (r .accepts) (B.and-true a ∙ q) (ofNum (numeral b d (r .reads)))
       (cc (r .bytes)) (r .written)
 
   back-bound : IsDigit b → a ≡ false → isBound X ≡ true → Back (gap a (X ∷ σ)) b (go [] (inNumber 1000 (b - 48) kNum σ))
