@@ -9,12 +9,12 @@ use mathlib.Core.Option.{none, some}
 use Prim.Native.Nat.{ℕ, suc, _+_, _*_, _-_, _≤_}
 use native.Mathlib.Omega.{arith}
 use lib.Dec.{eqb}
-use lib.ListN.{getD}
+use lib.ListN.{getD, drop}
 use borrow.Author.Tests.{eqb-true, le-leb, lt-leb, eq-eqb, ne-eqb}
 use Rattle.grammar.specs.Tokens.{Token, mark, num, spelling, isWordOrNumber, isWordNumberOrVariable, isCapital, isSpace}
 use Rattle.grammar.specs.Tokens.{Written, space, token}
 use Rattle.grammar.specs.Automaton.{Symbol, Entry, marks, vars, terms, isBound, Kind, kVar, kNum, kNeg, tokenOf}
-use Rattle.grammar.specs.Automaton.{State, gap, inMark, first, inNumber, Move, go, prepend, digit, within, rest}
+use Rattle.grammar.specs.Automaton.{State, gap, inMark, first, inNumber, Move, go, prepend, digit, within}
 use Rattle.grammar.specs.Automaton.{onto, inGap, step, accepted, fault, after, finish, run}
 use Rattle.grammar.proofs.Accepts.{Step, byMark, byVar, byTerm, byPlus, byMinus, Accepts, over, then}
 use Rattle.grammar.proofs.Numerals.{IsDigit, Digits, more, Numeral, numeral, digits-grow, no-leading}
@@ -63,7 +63,7 @@ digit-minus b d = let l = d .least in ne-eqb b 45 (λ e. omega arith)
 module _ (a : Bool) (X : Symbol) (σ : List Symbol) (b : ℕ) where
   -- what the table does with a byte, by the byte's kind
   pub at-mark : (e : Entry) → List·Memᴰ e (marks X) → b ≡ getD (e .0) 0 0 → (a && isCapital (getD (e .0) 0 0)) ≡ false
-      → inGap a (X ∷ σ) b ≡ within (rest (e .0)) (mark (e .0)) (e .1 ++ σ)
+      → inGap a (X ∷ σ) b ≡ within (drop 1 (e .0)) (mark (e .0)) (e .1 ++ σ)
   unfolding onto
   at-mark e m q h = let f = fact-of X m in rw (q, f .noSpace, f .noQuery, f .noMinus, f .noDigit, f .found, h)
 
@@ -126,9 +126,9 @@ forth-token : (a : Bool) {X : Symbol} (σ : List Symbol) {t : Token} {α : List 
     → Step X t α → Spells t u → (a && isWordOrNumber t) ≡ false → b ∷ s ≡ u ++ r → Accepts (α ++ σ) ts
     → Written (isWordNumberOrVariable t) ts r → Forth (t ∷ ts) s (inGap a (X ∷ σ) b)
 forth-token a {X} σ ts u r b s (byMark w α m) ofMark h q x y =
-    let p : b ∷ s ≡ getD w 0 0 ∷ (rest w ++ r) = q ∙ ap (λ (l : List ℕ). l ++ r) (fact-of X m .begins) in
+    let p : b ∷ s ≡ getD w 0 0 ∷ (drop 1 w ++ r) = q ∙ ap (λ (l : List ℕ). l ++ r) (fact-of X m .begins) in
     subst⁻¹ (Forth (mark w ∷ ts) s) (at-mark a X σ b (w, α) m (head-eq p) h)
-    (forth-within (rest w) (mark w) (α ++ σ) (mark w ∷ ts) s
+    (forth-within (drop 1 w) (mark w) (α ++ σ) (mark w ∷ ts) s
     (record { tail = r; tokens = ts; bytes = tail-eq p; same = refl; accepts = x; written = y }))
 forth-token a {X} σ {α = α} ts u r b s (byVar n l e) (ofVar {w = w} d) h q x y =
     forth-in (first 0 15 kVar (α ++ σ)) (at-var a X σ b α (head-eq q) e)
@@ -164,7 +164,7 @@ tight-token : {X : Symbol} {t : Token} {α : List Symbol} (u r : List ℕ) (b : 
     → isWordOrNumber t ≡ false → b ∷ s ≡ u ++ r → digit b ≡ false
 tight-token {X} u r b s (byMark w α m) ofMark h q =
     let f = fact-of X m in
-    let p : b ∷ s ≡ getD w 0 0 ∷ (rest w ++ r) = q ∙ ap (λ (l : List ℕ). l ++ r) (f .begins) in
+    let p : b ∷ s ≡ getD w 0 0 ∷ (drop 1 w ++ r) = q ∙ ap (λ (l : List ℕ). l ++ r) (f .begins) in
     subst⁻¹ (λ (c : ℕ). digit c ≡ false) (head-eq p) (f .noDigit)
 tight-token u r b s (byVar n l e) (ofVar d) h q = subst⁻¹ (λ (c : ℕ). digit c ≡ false) (head-eq q) refl
 tight-token u r b s (byTerm n l m e f) (ofNum d) h q = absurd (false≢true (sym h))

@@ -9,13 +9,13 @@ use Prim.Native.Nat.{ℕ, suc, _+_, _*_, _-_, _≤_}
 use native.Mathlib.Omega.{arith}
 use native.Mathlib.Nat.{le-trans}
 use lib.Dec.{eqb, leb}
-use lib.ListN.{getD}
+use lib.ListN.{getD, drop}
 use borrow.Author.Tests.{eqb-true, eqb-false, leb-true, not-true}
 use Rattle.tsparql.proofs.ListLaws.{and-left, and-right}
 use Rattle.grammar.specs.Tokens.{Token, mark, var, num, neg, isWordOrNumber, isWordNumberOrVariable, isCapital, isSpace}
 use Rattle.grammar.specs.Tokens.{Written, done, space}
 use Rattle.grammar.specs.Automaton.{Symbol, Entry, marks, vars, terms, isBound, Kind, kNum, kNeg, tokenOf}
-use Rattle.grammar.specs.Automaton.{State, gap, inMark, first, inNumber, Move, stop, go, prepend, digit, find, within, rest}
+use Rattle.grammar.specs.Automaton.{State, gap, inMark, first, inNumber, Move, stop, go, prepend, digit, find, within}
 use Rattle.grammar.specs.Automaton.{onMark, onVar, onTerm, onto, inGap, step, Outcome, accepted, fault, after, finish, run}
 use Rattle.grammar.proofs.Accepts.{Step, byMark, byVar, byTerm, byPlus, byMinus, Accepts, over, then, at0}
 use Rattle.grammar.proofs.Numerals.{IsDigit, Digits, more, numeral}
@@ -57,7 +57,7 @@ module _ (a : Bool) (X : Symbol) (σ : List Symbol) (b : ℕ) where
   back-mark e m q f =
       let P = Back (gap a (X ∷ σ)) b in
       cond-cases P (a && isCapital (getD (e .0) 0 0)) (λ c. tt)
-      (λ c. back-within (gap a (X ∷ σ)) b (rest (e .0)) (mark (e .0)) (e .1 ++ σ) (λ us s r.
+      (λ c. back-within (gap a (X ∷ σ)) b (drop 1 (e .0)) (mark (e .0)) (e .1 ++ σ) (λ us s r.
       back-token (mark (e .0)) (e .0) (r .tail) (r .same) (byMark (e .0) (e .1) m) (r .accepts) c ofMark
       (ap (λ (x : ℕ). x ∷ s) q ∙ ap (λ (l : List ℕ). getD (e .0) 0 0 ∷ l) (r .bytes) ∙ ap (λ (l : List ℕ). l ++ r .tail) (sym f))
       (r .written)))

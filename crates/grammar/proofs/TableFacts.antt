@@ -5,18 +5,18 @@ use mathlib.Core.Bool.{false}
 use mathlib.Core.List.{_∷_, List·Memᴰ}
 use mathlib.Core.Option.{some}
 use lib.Dec.{eqb}
-use lib.ListN.{getD}
+use lib.ListN.{getD, drop}
 use Rattle.tsparql.specs.Lists.{Every}
 use Rattle.tsparql.specs.Strikes.{ascii}
 use Rattle.grammar.specs.Tokens.{isSpace}
 use Rattle.grammar.specs.Automaton.{Symbol, sBody, sAfterTriple, sAfterElement, sAfterGroup, sSlot, sVar, sBound}
 use Rattle.grammar.specs.Automaton.{sPrimary, sNegatable, sRelation, sTail, sLBrace, sLParen, sRParen, sComma, sAS, sTRUST}
-use Rattle.grammar.specs.Automaton.{Entry, marks, digit, find, rest}
+use Rattle.grammar.specs.Automaton.{Entry, marks, digit, find}
 use Rattle.grammar.proofs.Basics.{every-member}
 
 -- an entry has a first byte
 abbrev pub Begins : Entry → Type 0
-Begins e = e .0 ≡ getD (e .0) 0 0 ∷ rest (e .0)
+Begins e = e .0 ≡ getD (e .0) 0 0 ∷ drop 1 (e .0)
 
 pub record MarkFact (X : Symbol) (e : Entry) : Type 0 where
   pub begins : Begins e

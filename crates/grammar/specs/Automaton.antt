@@ -7,7 +7,7 @@ use mathlib.Core.List.{List, [], _∷_, _++_}
 use mathlib.Core.Option.{Option, none, some}
 use Prim.Native.Nat.{ℕ, suc, _+_, _*_, _-_}
 use lib.Dec.{eqb, leb}
-use lib.ListN.{getD}
+use lib.ListN.{getD, drop}
 use Rattle.grammar.specs.Tokens.{Token, mark, var, num, neg, isSpace, isCapital, isWordNumberOrVariable}
 use Rattle.grammar.specs.Tokens as T
 
@@ -125,8 +125,8 @@ prepend t (go ts st) = go (t ∷ ts) st
 abbrev pub digit : ℕ → Bool
 digit b = leb 48 b && leb b 57
 
--- the fixed token with this first byte
-abbrev pub find : ℕ → List Entry → Option Entry
+-- of fixed tokens, each with something, the one with this first byte
+abbrev pub find : {A : Type 0} → ℕ → List (List ℕ × A) → Option (List ℕ × A)
 find b [] = none
 find b (e ∷ es) = cond (eqb b (getD (e .0) 0 0)) (some e) (find b es)
 
@@ -135,14 +135,10 @@ abbrev pub within : List ℕ → Token → List Symbol → Move
 within [] t σ = go (t ∷ []) (gap (isWordNumberOrVariable t) σ)
 within (c ∷ w) t σ = go [] (inMark c w t σ)
 
-abbrev pub rest : List ℕ → List ℕ
-rest [] = []
-rest (b ∷ w) = w
-
 -- the first byte of a fixed token: a word does not follow a word, number or variable directly
 abbrev pub onMark : Bool → List Symbol → Option Entry → Move
 onMark a σ none = stop
-onMark a σ (some e) = cond (a && isCapital (getD (e .0) 0 0)) stop (within (rest (e .0)) (mark (e .0)) (e .1 ++ σ))
+onMark a σ (some e) = cond (a && isCapital (getD (e .0) 0 0)) stop (within (drop 1 (e .0)) (mark (e .0)) (e .1 ++ σ))
 
 abbrev pub onVar : List Symbol → Option (List Symbol) → Move
 onVar σ none = stop

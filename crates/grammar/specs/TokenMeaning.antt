@@ -1,11 +1,9 @@
 -- The meaning of the tokens that the machine accepts, computed along its stack: each symbol that has still to come has a value, made of the
 -- values of what comes for it. That the tokens of a tree get the tree's meaning is proved (proofs/Means), so nothing here has to be
 -- believed. Groups: values; actions; the meaning. Assumes nothing.
-use mathlib.Core.List.{List, [], _∷_, _++_}
-use mathlib.Core.Bool.{cond}
+use mathlib.Core.List.{List, [], _∷_, _++_, map}
 use mathlib.Core.Option.{Option, none, some, Option·map}
 use Prim.Native.Nat.{ℕ, _+_, _-_}
-use lib.Dec.{eqb}
 use lib.ListN.{getD}
 use Rattle.tsparql.specs.Query.{aTerm, aVariable, Condition, Node, union}
 use Rattle.tsparql.specs.Query as Q
@@ -14,7 +12,7 @@ use Rattle.grammar.specs.Tokens as T
 use Rattle.grammar.specs.Meaning.{Item, aTriple, aGroup, aFilter, aProjection, aBound, groupNode, optionalItem}
 use Rattle.grammar.specs.Automaton.{Symbol, sBody, sAfterTriple, sAfterElement, sAfterGroup, sSlot, sVar, sBound}
 use Rattle.grammar.specs.Automaton.{sPrimary, sNegatable, sRelation, sTail, sLBrace, sLParen, sRParen, sComma, sAS, sTRUST}
-use Rattle.grammar.specs.Automaton.{accepted, fault, read}
+use Rattle.grammar.specs.Automaton.{find, accepted, fault, read}
 
 -- ---- values
 
@@ -114,10 +112,6 @@ orTriple ms = record { slot = λ x. some (tripleAction x); minus = never; marks 
 abbrev pub closing : Action (List Item) → Action (Node → List Item)
 closing a = (a .0, λ v n. aGroup n ∷ a .1 v)
 
-abbrev pub closingMarks : List (List ℕ × Action (List Item)) → List (List ℕ × Action (Node → List Item))
-closingMarks [] = []
-closingMarks (m ∷ ms) = (m .0, closing (m .1)) ∷ closingMarks ms
-
 abbrev pub unionAction : List ℕ × Action (Node → List Item)
 unionAction = (T.UNION, (sLBrace ∷ sBody ∷ sAfterGroup ∷ [], λ v n. v .1 .1 .0 (union n (groupNode (v .1 .0)))))
 
@@ -135,7 +129,7 @@ actions sAfterGroup =
     record {
       slot = λ x. some (closing (tripleAction x));
       minus = never;
-      marks = unionAction ∷ closingMarks (dotAction ∷ elementActions);
+      marks = unionAction ∷ map (λ m. (m .0, closing (m .1))) (dotAction ∷ elementActions);
     }
 actions sSlot = record { slot = λ x. some ([], λ v. x); minus = never; marks = [] }
 actions sVar = record { slot = λ x. some ([], λ v. number x); minus = never; marks = [] }
@@ -158,13 +152,9 @@ actions sTRUST = only T.TRUST
 
 -- ---- the meaning
 
--- the action of the fixed token with this first byte
-abbrev pub lookup : {A : Type 0} → ℕ → List (List ℕ × Action A) → Option (Action A)
-lookup b [] = none
-lookup b (m ∷ ms) = cond (eqb b (getD (m .0) 0 0)) (some (m .1)) (lookup b ms)
-
+-- what a token that comes for a symbol does, fixed ones by their first bytes
 abbrev pub act : (X : Symbol) → Token → Option (Action (Value X))
-act X (mark w) = lookup (getD w 0 0) (actions X .marks)
+act X (mark w) = Option·map (λ m. m .1) (find (getD w 0 0) (actions X .marks))
 act X (var n) = actions X .slot (aVariable n)
 act X (num n) = actions X .slot (aTerm n)
 act X (neg n) = actions X .minus n
