@@ -1,0 +1,3 @@
+-- Laws about blocks.
+pub mod Moving
+pub mod Holding

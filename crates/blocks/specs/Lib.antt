@@ -1,0 +1,2 @@
+-- Blocks of bytes in a buffer.
+pub mod Blocks
