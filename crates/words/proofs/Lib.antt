@@ -1,0 +1,4 @@
+-- Laws about words.
+pub mod WordLaws
+pub mod LinkLaws
+pub mod Balance

@@ -1,0 +1,169 @@
+-- Where brackets close: one word more before those of which it is known (`closed-..`), the loop over all words (`Linking`), and what it
+-- says of a place (`linked-behind`). Assumes nothing.
+use mathlib.Core.Path.{_≡_, refl, sym, ap, _∙_, subst⁻¹}
+use mathlib.Core.Bool.{Bool, true, false}
+use mathlib.Core.List.{List, [], _∷_}
+use Prim.Native.Nat.{ℕ, zero, suc, _+_, _-_, _≤_, _<_}
+use native.Mathlib.Omega.{arith}
+use native.Mathlib.Numerals.{add-one}
+use native.Mathlib.Nat.{le-refl}
+use lib.Dec.{ltb}
+use lib.ListN.{length, drop, getD, set, length-set, length-drop}
+use lib.Seq.{drop-cons, drop-length, getD-set-same, getD-set-other}
+use borrow.Author.Tests.{ltb-true, ltb-false}
+use Rattle.words.specs.Links.{isOpening, isClosing, behindOf, ClosedAt, LinkedFrom, Linked}
+
+-- ---- what stands behind
+
+pub behind-none : (ws : List ℕ) → behindOf 0 ws ≡ ws
+unfolding behindOf
+behind-none [] = refl
+behind-none (w ∷ ws) = refl
+
+-- behind e closing brackets, and then d
+pub behind-sum : (d e f : ℕ) (ws : List ℕ) → f ≡ e + d → behindOf d (behindOf e ws) ≡ behindOf f ws
+unfolding behindOf
+behind-sum d e f [] q = refl
+behind-sum d (zero) f (w ∷ ws) q = let same : d ≡ f = omega arith in ap (λ (n : ℕ). behindOf n (w ∷ ws)) same
+behind-sum d (suc e) (zero) (w ∷ ws) q = absurd (omega arith)
+behind-sum d (suc e) (suc f) (w ∷ ws) q =
+    let closes = behind-sum d e f ws (omega arith) in
+    let opens = behind-sum d (suc (suc e)) (suc (suc f)) ws (omega arith) in
+    let other = behind-sum d (suc e) (suc f) ws (omega arith) in
+    split (isClosing w) (isOpening w) refl refl closes opens other
+  where
+    split :
+        (c o : Bool) → isClosing w ≡ c → isOpening w ≡ o → behindOf d (behindOf e ws) ≡ behindOf f ws
+        → behindOf d (behindOf (suc (suc e)) ws) ≡ behindOf (suc (suc f)) ws → behindOf d (behindOf (suc e) ws) ≡ behindOf (suc f) ws
+        → behindOf d (behindOf (suc e) (w ∷ ws)) ≡ behindOf (suc f) (w ∷ ws)
+    split true o p r x y z = rw p x
+    split false true p r x y z = rw (p, r) y
+    split false false p r x y z = rw (p, r) z
+
+-- ---- one word more
+
+-- a word at a place, and those behind it
+ahead : (t : List ℕ) (i : ℕ) → i < length t → drop i t ≡ getD t i 0 ∷ drop (i + 1) t
+ahead t i h = drop-cons t i 0 h ∙ ap (λ (n : ℕ). getD t i 0 ∷ drop n t) (sym (add-one i))
+
+pub closed-closing : (t : List ℕ) (i : ℕ) → i < length t → isClosing (getD t i 0) ≡ true → ClosedAt t i (i + 1)
+unfolding behindOf
+closed-closing t i h w =
+    record {
+      from = omega arith;
+      to = omega arith;
+      so = sym (ap (λ (ws : List ℕ). behindOf 1 ws) (ahead t i h) ∙ rw w (behind-none (drop (i + 1) t)));
+    }
+
+module _ (t ends : List ℕ) (i : ℕ) (h : i < length t) (links : LinkedFrom t ends (i + 1)) where
+  pub next : ClosedAt t (i + 1) (getD ends (i + 1) 0)
+  next = links (i + 1) (le-refl (i + 1)) (omega arith)
+
+  -- the bracket that opens here, and then the one that is open before it
+  pub closed-opening : isClosing (getD t i 0) ≡ false → isOpening (getD t i 0) ≡ true
+      → ClosedAt t i (getD ends (getD ends (i + 1) 0) 0)
+  unfolding behindOf
+  closed-opening c o =
+      let e = getD ends (i + 1) 0 in
+      let from₁ = next .from in
+      let second = links e (next .from) (next .to) in
+      let from₂ = second .from in
+      record {
+        from = omega arith;
+        to = second .to;
+        so =
+            second .so
+            ∙ ap (λ (ws : List ℕ). behindOf 1 ws) (next .so)
+            ∙ behind-sum 1 1 2 (drop (i + 1) t) refl
+            ∙ sym (ap (λ (ws : List ℕ). behindOf 1 ws) (ahead t i h)
+            ∙ rw (c, o));
+      }
+
+  pub closed-other : isClosing (getD t i 0) ≡ false → isOpening (getD t i 0) ≡ false → ClosedAt t i (getD ends (i + 1) 0)
+  unfolding behindOf
+  closed-other c o =
+      let from₁ = next .from in
+      record {
+        from = omega arith;
+        to = next .to;
+        so =
+            next .so
+            ∙ sym (ap (λ (ws : List ℕ). behindOf 1 ws) (ahead t i h) ∙ rw (c, o));
+      }
+
+-- ---- the loop
+
+-- it is known from i on
+pub record Linking (t ends₀ ends : List ℕ) (i : ℕ) : Type 0 where
+  pub inside : i ≤ length t
+  pub same : length ends ≡ length ends₀
+  pub within : length t < length ends
+  pub links : LinkedFrom t ends i
+
+-- what is known one place on
+pub linking-links : (t ends₀ ends : List ℕ) (i : ℕ) → 0 < i → Linking t ends₀ ends i → LinkedFrom t ends (i - 1 + 1)
+linking-links t ends₀ ends i h l = let back : i - 1 + 1 ≡ i = omega arith in subst⁻¹ (LinkedFrom t ends) back (l .links)
+
+-- an entry more
+pub linked-entry :
+    (t ends : List ℕ) (i e : ℕ) → i < length ends → ClosedAt t i e → LinkedFrom t ends (i + 1) → LinkedFrom t (set ends i e) i
+linked-entry t ends i e r c l j h k = split (ltb i j) refl
+  where
+    split : (b : Bool) → ltb i j ≡ b → ClosedAt t j (getD (set ends i e) j 0)
+    split false g =
+        let least = ltb-false i j g in
+        let same : j ≡ i = omega arith in
+        subst⁻¹ (λ (n : ℕ). ClosedAt t n (getD (set ends i e) n 0)) same (subst⁻¹ (ClosedAt t i) (getD-set-same ends i e 0 r) c)
+    split true g =
+        let more = ltb-true i j g in
+        subst⁻¹ (ClosedAt t j) (getD-set-other ends i j e 0 (λ q. omega arith)) (l j (omega arith) k)
+
+-- behind the last word nothing is open
+pub linking-first :
+    (t ends : List ℕ) → length t < length ends
+    → Linking t (set ends (length t) (length t)) (set ends (length t) (length t)) (length t)
+unfolding behindOf
+linking-first t ends h =
+    let n = length t in
+    let all : ClosedAt t n n =
+    record { from = le-refl n; to = le-refl n; so = sym (ap (λ (ws : List ℕ). behindOf 1 ws) (drop-length t) ∙ sym (drop-length t)) } in
+    record {
+      inside = le-refl n;
+      same = refl;
+      within = subst⁻¹ (λ (m : ℕ). n < m) (length-set ends n n) h;
+      links = linked-entry t ends n n h all (λ j a b. absurd (omega arith));
+    }
+
+pub linking-next :
+    (t ends₀ ends : List ℕ) (i e : ℕ) → 0 < i → Linking t ends₀ ends i → ClosedAt t (i - 1) e → Linking t ends₀ (set ends (i - 1) e) (i - 1)
+linking-next t ends₀ ends i e h l c =
+    let inside = l .inside in
+    let within = l .within in
+    record {
+      inside = omega arith;
+      same = length-set ends (i - 1) e ∙ l .same;
+      within = subst⁻¹ (λ (m : ℕ). length t < m) (length-set ends (i - 1) e) (l .within);
+      links = linked-entry t ends (i - 1) e (omega arith) c (linking-links t ends₀ ends i h l);
+    }
+
+pub linking-all : (t ends₀ ends : List ℕ) (i : ℕ) → i ≤ 0 → Linking t ends₀ ends i → Linked t ends
+linking-all t ends₀ ends i h l =
+    let none : 0 ≡ i = omega arith in
+    record { within = l .within; links = subst⁻¹ (LinkedFrom t ends) none (l .links) }
+
+-- ---- a place
+
+pub linked-behind :
+    (t ends : List ℕ) (at : ℕ) → at ≤ length t → Linked t ends → (at ≤ getD ends at 0) × (drop (getD ends at 0) t ≡ behindOf 1 (drop at t))
+linked-behind t ends at h l = let c = l .links at (omega arith) h in (c .from, c .so)
+
+-- behind the last word
+pub unlinked-behind : (t : List ℕ) (at : ℕ) → length t < at → (at ≤ at) × (drop at t ≡ behindOf 1 (drop at t))
+unfolding behindOf
+unlinked-behind t at h =
+    let e = none (drop at t) (omega (arith, length-drop at t)) in
+    (le-refl at, e ∙ sym (ap (λ (ws : List ℕ). behindOf 1 ws) e))
+  where
+    none : (ws : List ℕ) → length ws ≡ 0 → ws ≡ []
+    none [] e = refl
+    none (w ∷ ws) e = absurd (omega arith)
