@@ -1,0 +1,10 @@
+-- Laws about symbols, rules, stacks, tokens and scans, each file above the ones that use it.
+pub mod SymbolLaws
+pub mod RuleLaws
+pub mod EntryLaws
+pub mod StackLaws
+pub mod FirstByte
+pub mod NumberLaws
+pub mod FixedLaws
+pub mod SpaceLaws
+pub mod ScanLaws
