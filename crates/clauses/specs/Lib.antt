@@ -1,0 +1,3 @@
+-- What the functions that write a condition promise.
+pub mod Tails
+pub mod Clauses
