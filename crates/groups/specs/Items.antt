@@ -1,0 +1,45 @@
+-- The words of a group's body, item by item: which tokens are those of a body from an item on, and where the next item begins. Assumes
+-- nothing.
+use mathlib.Core.Path.{_≡_}
+use mathlib.Core.Bool.{Bool, true, false, cond, _||_}
+use mathlib.Core.List.{List, _∷_}
+use Prim.Native.Nat.{ℕ}
+use lib.Dec.{eqb, leb}
+use lib.ListN.{drop, getD}
+use Rattle.grammar.specs.Tokens.{Token, mark, DOT}
+use Rattle.grammar.specs.Grammar.{Body, bodyTokens}
+use Rattle.grammar.specs.Meaning.{Item, items}
+use Rattle.words.specs.Words.{words}
+use Rattle.words.specs.Links.{behindOf}
+
+-- a dot may stand before
+abbrev pub dotted : Bool → List Token → List Token
+dotted true ts = mark DOT ∷ ts
+dotted false ts = ts
+
+-- the tokens ts are those of a body with the items is, perhaps behind a dot, and then rest
+pub record Follows (ts : List Token) (is : List Item) (rest : List Token) : Type 0 where
+  pub bare : Bool
+  pub tree : Body bare
+  pub dot : Bool
+  pub written : ts ≡ dotted dot (bodyTokens tree rest)
+  pub means : is ≡ items tree
+
+-- the words ws are those of such tokens
+pub record Items (ws : List ℕ) (is : List Item) (rest : List Token) : Type 0 where
+  pub tail : List Token
+  pub written : ws ≡ words tail
+  pub follows : Follows tail is rest
+
+-- What stands behind the item at the front of ws, of which w is the first word: a triple has three words, TRUST AS too, ENSURE TRUST
+-- seven; a group, a filter, an OPTIONAL and a further group of a UNION end where their bracket closes; a dot stands by itself.
+abbrev pub nextBy : ℕ → List ℕ → List ℕ
+nextBy w ws =
+    cond (leb 256 w || eqb w 84) (drop 3 ws)
+    (cond (eqb w 69) (drop 7 ws)
+    (cond (eqb w 123) (behindOf 1 (drop 1 ws))
+    (cond (eqb w 70 || (eqb w 79 || eqb w 85)) (behindOf 1 (drop 2 ws)) (drop 1 ws))))
+
+-- the same by the words alone
+abbrev pub nextItem : List ℕ → List ℕ
+nextItem ws = nextBy (getD ws 0 0) ws
