@@ -1,0 +1,298 @@
+-- Nodes in a buffer: how long they are, and that each function leaves what it promises. Assumes nothing.
+use mathlib.Core.Path.{_≡_, refl, sym, ap, _∙_, subst}
+use mathlib.Core.Bool.{Bool, true, false, cond}
+use mathlib.Core.List.{List, [], _∷_, _++_, append-assoc, append-nil}
+use mathlib.Core.Option.{none, some}
+use Prim.Native.Nat.{ℕ, _+_, _*_, _-_, _/_, _%_, _≤_, _<_}
+use native.Mathlib.Omega.{arith}
+use lib.ListN.{length, take, drop, getD, set, length-append}
+use lib.Seq.{set-at, take-at}
+use Rattle.tsparql.specs.Lists.{concatMap}
+use Rattle.tsparql.proofs.ListLaws.{concatMap-append}
+use Rattle.tsparql.specs.Query as Q
+use Rattle.tsparql.specs.Query.{Node, Pattern, patternSet, join, leftJoin, union, projectTrust, ensureTrust}
+use Rattle.tsparql.specs.Writing.{nodeBytes, conditionBytes, patternBytes, threeBytes, slotNumber}
+use Rattle.grammar.specs.Grammar.{term, variable}
+use Rattle.grammar.specs.Meaning.{isEmptySet, joined, slotOf, patternOf}
+use Rattle.blocks.specs.Blocks.{Holds, Puts, Exchanges, Appends}
+use Rattle.blocks.proofs.Holding.{holds-split, split-holds, holds-within, appends-more}
+use Rattle.words.proofs.WordLaws.{word-at, word-first}
+use Rattle.clauses.proofs.ClauseLaws.{term-bytes}
+use Rattle.parser.specs.Sets.{Unites, Joins, before, Begins, Marks, Slots, Adds}
+
+-- ---- lengths
+
+pub node-large : (x : Node) → 1 ≤ length (nodeBytes x)
+unfolding nodeBytes
+node-large (patternSet ps) = omega arith
+node-large (join x y) = omega arith
+node-large (leftJoin c x y) = omega arith
+node-large (union x y) = omega arith
+node-large (Q.filter c x) = omega arith
+node-large (projectTrust v x) = omega arith
+node-large (ensureTrust l u x) = omega arith
+
+clash : {A : Type 0} → false ≡ true → A
+clash e = absurd (let z : _≡_ {A = ℕ} 0 1 = ap (λ (b : Bool). cond b 1 0) e in omega arith)
+
+pub empty-bytes : (x : Node) → isEmptySet x ≡ true → nodeBytes x ≡ 0 ∷ []
+unfolding nodeBytes
+empty-bytes (patternSet []) e = refl
+empty-bytes (patternSet (p ∷ ps)) e = clash e
+empty-bytes (join x y) e = clash e
+empty-bytes (leftJoin c x y) e = clash e
+empty-bytes (union x y) e = clash e
+empty-bytes (Q.filter c x) e = clash e
+empty-bytes (projectTrust v x) e = clash e
+empty-bytes (ensureTrust l u x) e = clash e
+
+pub full-large : (x : Node) → isEmptySet x ≡ false → 2 ≤ length (nodeBytes x)
+unfolding nodeBytes patternBytes
+full-large (patternSet []) e = clash (sym e)
+full-large (patternSet (p ∷ ps)) e = omega arith
+full-large (join x y) e = omega (arith, length-append (nodeBytes x) (nodeBytes y), node-large x)
+full-large (leftJoin c x y) e =
+    let both = length-append (nodeBytes x) (nodeBytes y) in
+    omega (arith, length-append (conditionBytes c) (nodeBytes x ++ nodeBytes y), both, node-large x)
+full-large (union x y) e = omega (arith, length-append (nodeBytes x) (nodeBytes y), node-large x)
+full-large (Q.filter c x) e = omega (arith, length-append (conditionBytes c) (nodeBytes x), node-large x)
+full-large (projectTrust v x) e = omega (arith, node-large x)
+full-large (ensureTrust l u x) e = omega arith
+
+-- ---- sets
+
+patterns-size : (ps : List Pattern) → length (concatMap patternBytes ps) ≡ 9 * length ps
+unfolding patternBytes
+patterns-size [] = refl
+patterns-size (p ∷ ps) = let h = patterns-size ps in omega (arith, length-append (patternBytes p) (concatMap patternBytes ps))
+
+is-empty : (x : Node) → isEmptySet x ≡ true → x ≡ patternSet []
+is-empty (patternSet []) e = refl
+is-empty (patternSet (p ∷ ps)) e = clash e
+is-empty (join x y) e = clash e
+is-empty (leftJoin c x y) e = clash e
+is-empty (union x y) e = clash e
+is-empty (Q.filter c x) e = clash e
+is-empty (projectTrust v x) e = clash e
+is-empty (ensureTrust l u x) e = clash e
+
+pub joined-empty : (x : Node) → joined x (patternSet []) ≡ x
+joined-empty x = go (isEmptySet x) refl
+  where
+    go : (b : Bool) → isEmptySet x ≡ b → joined x (patternSet []) ≡ x
+    go true e = ap (λ (b : Bool). cond b (patternSet []) x) e ∙ sym (is-empty x e)
+    go false e = ap (λ (b : Bool). cond b (patternSet []) x) e
+
+pub joined-set :
+    (x : Node) (p : Pattern) (ps : List Pattern)
+    → before x ++ nodeBytes (patternSet (p ∷ ps)) ≡ nodeBytes (joined x (patternSet (p ∷ ps)))
+unfolding nodeBytes
+joined-set x p ps = go (isEmptySet x) refl
+  where
+    go : (b : Bool) → isEmptySet x ≡ b → before x ++ nodeBytes (patternSet (p ∷ ps)) ≡ nodeBytes (joined x (patternSet (p ∷ ps)))
+    go true e = rw e
+    go false e = rw e
+
+pub before-size : (x : Node) → length (before x) ≤ length (nodeBytes x) + 1
+before-size x = go (isEmptySet x)
+  where
+    go : (b : Bool) → length (cond b [] (16 ∷ nodeBytes x)) ≤ length (nodeBytes x) + 1
+    go true = omega arith
+    go false = omega arith
+
+pub set-size : (ps : List Pattern) → length (nodeBytes (patternSet ps)) ≡ 1 + 9 * length ps
+unfolding nodeBytes
+set-size ps = omega (arith, patterns-size ps)
+
+-- ---- united
+
+pub unite-some : (out out′ : List ℕ) (mid end n r : ℕ) → mid < end → Puts out out′ mid n 48 r → Unites out out′ mid end n r
+unfolding nodeBytes
+unite-some out out′ mid end n r h a pre none x e f g room = absurd (omega arith)
+unite-some out out′ mid end n r h a pre (some u) x e f g room = a pre (nodeBytes u ++ nodeBytes x) (sym e) g room
+
+pub unite-none : (out : List ℕ) (mid end n : ℕ) → end ≤ mid → Unites out out mid end n n
+unite-none out mid end n h pre none x e f g room = g
+unite-none out mid end n h pre (some u) x e f g room = absurd (omega (arith, node-large u))
+
+-- ---- joined
+
+-- lengths of the blocks
+pub joins-none : (out : List ℕ) (from mid n r : ℕ) → n ≤ mid → Joins out out from mid n r
+joins-none out from mid n r h pre x y e f g room =
+    let s = g .size in
+    absurd (omega (arith, length-append pre (nodeBytes x ++ nodeBytes y), length-append (nodeBytes x) (nodeBytes y), node-large y))
+
+pub joins-none-2 : (out : List ℕ) (from mid n r : ℕ) → mid ≤ from → Joins out out from mid n r
+joins-none-2 out from mid n r h pre x y e f g room = absurd (omega (arith, node-large x))
+
+held-front : (out xs ys : List ℕ) (n m : ℕ) → m ≡ length xs → Holds out (xs ++ ys) n → Holds out xs m
+held-front out xs ys n m e h =
+    split-holds out xs (ys ++ drop n out) m (holds-split out (xs ++ ys) n h ∙ append-assoc xs ys (drop n out)) e
+
+pub joins-right-empty : (out : List ℕ) (from mid n : ℕ) → mid < n → n - mid ≡ 1 → Joins out out from mid n mid
+joins-right-empty out from mid n l q pre x y e f g room = go (isEmptySet x) refl (isEmptySet y) refl
+  where
+    go : (b : Bool) → isEmptySet x ≡ b → (c : Bool) → isEmptySet y ≡ c → Holds out (pre ++ nodeBytes (joined x y)) mid
+    go b ex false ey =
+        let s = g .size in
+        absurd (omega (arith, length-append pre (nodeBytes x ++ nodeBytes y), length-append (nodeBytes x) (nodeBytes y), full-large y ey))
+    go true ex true ey =
+        let h = held-front out (pre ++ nodeBytes x) (nodeBytes y) n mid (f ∙ sym (length-append pre (nodeBytes x)))
+        (subst (λ (l : List ℕ). Holds out l n) (sym (append-assoc pre (nodeBytes x) (nodeBytes y))) g) in
+        let so : nodeBytes x ≡ nodeBytes (joined x y) = empty-bytes x ex ∙ sym (empty-bytes y ey) ∙ rw ex in
+        subst (λ (l : List ℕ). Holds out (pre ++ l) mid) so h
+    go false ex true ey =
+        let h = held-front out (pre ++ nodeBytes x) (nodeBytes y) n mid (f ∙ sym (length-append pre (nodeBytes x)))
+        (subst (λ (l : List ℕ). Holds out l n) (sym (append-assoc pre (nodeBytes x) (nodeBytes y))) g) in
+        let so : nodeBytes x ≡ nodeBytes (joined x y) = rw (ex, ey) in
+        subst (λ (l : List ℕ). Holds out (pre ++ l) mid) so h
+
+pub joins-left-empty :
+    (out out′ : List ℕ) (from mid n : ℕ) → from < mid → mid - from ≡ 1 → mid < n → Exchanges out out′ from mid n
+    → Joins out out′ from mid n (n - 1)
+joins-left-empty out out′ from mid n l q z a pre x y e f g room = go (isEmptySet x) refl
+  where
+    go : (b : Bool) → isEmptySet x ≡ b → Holds out′ (pre ++ nodeBytes (joined x y)) (n - 1)
+    go false ex = absurd (omega (arith, full-large x ex))
+    go true ex =
+        let s = g .size in
+        let h = a pre (nodeBytes x) (nodeBytes y) (sym e) (sym f) g in
+        let both = length-append (nodeBytes x) (nodeBytes y) in
+        let k : n - 1 ≡ length (pre ++ nodeBytes y) =
+        omega (arith, length-append pre (nodeBytes x ++ nodeBytes y), both, length-append pre (nodeBytes y)) in
+        let h₂ = held-front out′ (pre ++ nodeBytes y) (nodeBytes x) n (n - 1) k
+        (subst (λ (l : List ℕ). Holds out′ l n) (sym (append-assoc pre (nodeBytes y) (nodeBytes x))) h) in
+        let so : nodeBytes y ≡ nodeBytes (joined x y) = rw ex in
+        subst (λ (l : List ℕ). Holds out′ (pre ++ l) (n - 1)) so h₂
+
+pub joins-both :
+    (out out′ : List ℕ) (from mid n r : ℕ) → from < mid → mid < n → (mid - from ≡ 1 → ⊥) → (n - mid ≡ 1 → ⊥) → Puts out out′ from n 16 r
+    → Joins out out′ from mid n r
+unfolding nodeBytes
+joins-both out out′ from mid n r l z p q a pre x y e f g room = go (isEmptySet x) refl (isEmptySet y) refl
+  where
+    go : (b : Bool) → isEmptySet x ≡ b → (c : Bool) → isEmptySet y ≡ c → Holds out′ (pre ++ nodeBytes (joined x y)) r
+    go true ex c ey = absurd (p (omega (arith, ap length (empty-bytes x ex))))
+    go false ex true ey =
+        let s = g .size in
+        let both = length-append (nodeBytes x) (nodeBytes y) in
+        absurd (q (omega (arith, ap length (empty-bytes y ey), length-append pre (nodeBytes x ++ nodeBytes y), both)))
+    go false ex false ey =
+        let so : nodeBytes (join x y) ≡ nodeBytes (joined x y) = rw (ex, ey) in
+        subst (λ (l : List ℕ). Holds out′ (pre ++ l) r) so (a pre (nodeBytes x ++ nodeBytes y) (sym e) g room)
+
+-- ---- an empty set
+
+pub begins-none : (out : List ℕ) (from n r : ℕ) → n ≤ from → Begins out out from n r
+begins-none out from n r h pre x e g room = let s = g .size in absurd (omega (arith, length-append pre (nodeBytes x), node-large x))
+
+pub begins-empty : (out : List ℕ) (from n : ℕ) → from < n → n - from ≡ 1 → Begins out out from n n
+begins-empty out from n l q pre x e g room = go (isEmptySet x) refl
+  where
+    go : (b : Bool) → isEmptySet x ≡ b → Holds out (pre ++ (before x ++ (0 ∷ []))) n
+    go false ex = let s = g .size in absurd (omega (arith, length-append pre (nodeBytes x), full-large x ex))
+    go true ex =
+        let so : nodeBytes x ≡ before x ++ (0 ∷ []) = empty-bytes x ex ∙ rw ex in
+        subst (λ (l : List ℕ). Holds out (pre ++ l) n) so g
+
+pub begins-full :
+    (out out₁ out₂ : List ℕ) (from n m r : ℕ) → from < n → (n - from ≡ 1 → ⊥) → length out₁ ≡ length out → Appends out out₁ n (0 ∷ []) m
+    → Puts out₁ out₂ from m 16 r → Begins out out₂ from n r
+begins-full out out₁ out₂ from n m r l q same a b pre x e g room = go (isEmptySet x) refl
+  where
+    go : (c : Bool) → isEmptySet x ≡ c → Holds out₂ (pre ++ (before x ++ (0 ∷ []))) r
+    go true ex = let s = g .size in absurd (q (omega (arith, length-append pre (nodeBytes x), ap length (empty-bytes x ex))))
+    go false ex =
+        let s = g .size in
+        let h = a (pre ++ nodeBytes x) g (omega arith) in
+        let k = h .size in
+        let h₁ = subst (λ (y : List ℕ). Holds out₁ y m) (append-assoc pre (nodeBytes x) (0 ∷ [])) h in
+        let h₂ = b pre (nodeBytes x ++ (0 ∷ [])) (sym e) h₁
+        (omega (arith, length-append (pre ++ nodeBytes x) (0 ∷ []))) in
+        let so : 16 ∷ (nodeBytes x ++ (0 ∷ [])) ≡ before x ++ (0 ∷ []) = rw ex in
+        subst (λ (y : List ℕ). Holds out₂ (pre ++ y) r) so h₂
+
+-- ---- a triple
+
+pub marks : (out : List ℕ) (h v : ℕ) → h < length out → Marks out (set out h v) h v
+marks out h v l pre rest a n e g =
+    let s = g .size in
+    let D = drop n out in
+    let so : set out h v ≡ (pre ++ (v ∷ rest)) ++ D =
+    ap (λ (x : List ℕ). set x h v) (holds-split out (pre ++ (a ∷ rest)) n g ∙ append-assoc pre (a ∷ rest) D)
+    ∙ set-at pre a (rest ++ D) v h e ∙ sym (append-assoc pre (v ∷ rest) D) in
+    let size : n ≡ length (pre ++ (v ∷ rest)) = omega (arith, length-append pre (a ∷ rest), length-append pre (v ∷ rest)) in
+    record { size = size; front = ap (λ (x : List ℕ). take n x) so ∙ take-at (pre ++ (v ∷ rest)) D n (sym size) }
+
+pub marks-none : (out : List ℕ) (h v : ℕ) → length out ≤ h → Marks out out h v
+marks-none out h v l pre rest a n e g =
+    let s = g .size in
+    absurd (omega (arith, length-append pre (a ∷ rest), holds-within out _ n g))
+
+pub slots-variable :
+    (t : List ℕ) (i : ℕ) (out out′ : List ℕ) (n r w : ℕ) → w ≡ getD t i 0 → w < 2097152
+    → Appends out out′ n (16 ∷ 0 ∷ w % 256 ∷ []) r
+    → Slots t i out out′ n r
+slots-variable t i out out′ n r w e l a (term x) f = absurd (omega arith)
+slots-variable t i out out′ n r w e l a (variable v) f =
+    let s = v .small in
+    let p : 16 ≡ (1048576 + v .name) / 65536 = omega arith in
+    let q : 0 ≡ (1048576 + v .name) / 256 % 256 = omega arith in
+    let z : w % 256 ≡ (1048576 + v .name) % 256 = omega arith in
+    let so : 16 ∷ 0 ∷ w % 256 ∷ [] ≡ threeBytes (1048576 + v .name) =
+    ap (λ (c : ℕ). c ∷ 0 ∷ w % 256 ∷ []) p ∙ ap (λ (c : ℕ). (1048576 + v .name) / 65536 ∷ c ∷ w % 256 ∷ []) q
+    ∙ ap (λ (c : ℕ). (1048576 + v .name) / 65536 ∷ (1048576 + v .name) / 256 % 256 ∷ c ∷ []) z in
+    subst (λ (l : List ℕ). Appends out out′ n l r) so a
+
+pub slots-term :
+    (t : List ℕ) (i : ℕ) (out out′ : List ℕ) (n r w : ℕ) → w ≡ getD t i 0 → 2097152 ≤ w
+    → Appends out out′ n (w / 65536 % 32 ∷ w / 256 % 256 ∷ w % 256 ∷ []) r → Slots t i out out′ n r
+slots-term t i out out′ n r w e l a (variable v) f = let s = v .small in absurd (omega arith)
+slots-term t i out out′ n r w e l a (term x) f =
+    let q = term-bytes w (x .number) (e ∙ f) (x .most) in
+    let so : w / 65536 % 32 ∷ w / 256 % 256 ∷ w % 256 ∷ [] ≡ threeBytes (x .number) = rw (q .0, q .1 .0, q .1 .1) in
+    subst (λ (l : List ℕ). Appends out out′ n l r) so a
+
+set-more :
+    (ps : List Pattern) (p : Pattern)
+    → nodeBytes (patternSet (ps ++ (p ∷ []))) ≡ (length ps + 1) ∷ (concatMap patternBytes ps ++ patternBytes p)
+unfolding nodeBytes
+set-more ps p =
+    let n : 0 + length (ps ++ (p ∷ [])) ≡ length ps + 1 = omega (arith, length-append ps (p ∷ [])) in
+    let all : concatMap patternBytes (ps ++ (p ∷ [])) ≡ concatMap patternBytes ps ++ patternBytes p =
+    concatMap-append patternBytes ps (p ∷ []) ∙ ap (λ (l : List ℕ). concatMap patternBytes ps ++ l) (append-nil (patternBytes p)) in
+    ap (λ (c : ℕ). c ∷ concatMap patternBytes (ps ++ (p ∷ []))) n ∙ ap (λ (l : List ℕ). (length ps + 1) ∷ l) all
+
+pub adds :
+    (t : List ℕ) (i : ℕ) (out out₀ out₁ out₂ out₃ : List ℕ) (n run a b r : ℕ) → length out₀ ≡ length out → length out₁ ≡ length out₀
+    → length out₂ ≡ length out₁ → 9 * run < n → Marks out out₀ (n - 1 - 9 * run) (run + 1) → Slots t i out₀ out₁ n a
+    → Slots t (i + 1) out₁ out₂ a b → Slots t (i + 2) out₂ out₃ b r
+    → Adds t i out out₃ n run r
+unfolding nodeBytes patternBytes
+adds t i out out₀ out₁ out₂ out₃ n run a b r s₀ s₁ s₂ z m p q w pre ps x y v rest e few f g room =
+    let size = g .size in
+    let k = patterns-size ps in
+    let P = concatMap patternBytes ps in
+    let B = patternBytes (patternOf x y v) in
+    let h₀ = m pre P (0 + length ps) n (omega (arith, length-append pre ((0 + length ps) ∷ P))) g in
+    let X = threeBytes (slotNumber (slotOf x)) in
+    let Y = threeBytes (slotNumber (slotOf y)) in
+    let Z = threeBytes (slotNumber (slotOf v)) in
+    let last = appends-more out₁ out₂ out₃ Y Z a b r s₂ (q y (word-at t _ i 1 f)) (w v (word-at t _ i 2 f)) in
+    let all = appends-more out₀ out₁ out₃ X (Y ++ Z) n a r s₁ (p x (word-first t _ i _ f)) last in
+    let h = all (pre ++ ((run + 1) ∷ P)) h₀ (omega arith) in
+    let flat : (pre ++ ((run + 1) ∷ P)) ++ B ≡ pre ++ nodeBytes (patternSet (ps ++ (patternOf x y v ∷ []))) =
+    append-assoc pre ((run + 1) ∷ P) B
+    ∙ ap (λ (c : ℕ). pre ++ ((c + 1) ∷ (P ++ B))) e
+    ∙ ap (λ (l : List ℕ). pre ++ l) (sym (set-more ps (patternOf x y v))) in
+    subst (λ (l : List ℕ). Holds out₃ l r) flat h
+
+pub adds-none : (t : List ℕ) (i : ℕ) (out : List ℕ) (n run r : ℕ) → 14 < run → Adds t i out out n run r
+adds-none t i out n run r h pre ps x y v rest e few f g room = absurd (omega arith)
+
+pub adds-none-2 : (t : List ℕ) (i : ℕ) (out : List ℕ) (n run r : ℕ) → n ≤ 9 * run → Adds t i out out n run r
+unfolding nodeBytes
+adds-none-2 t i out n run r h pre ps x y v rest e few f g room =
+    let size = g .size in
+    absurd (omega (arith, patterns-size ps, length-append pre ((0 + length ps) ∷ concatMap patternBytes ps)))

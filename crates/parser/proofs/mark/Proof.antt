@@ -1,0 +1,20 @@
+-- Each answer is one law. Assumes nothing.
+use Rattle.parser.proofs.SetLaws.{marks, marks-none}
+use borrow.Author.Needs.{needs}
+use Rattle.parser.proofs.mark.Statement.{statement}
+use Rattle.parser.proofs.mark.Tie as tie
+
+slice-write-out : tie.Need-slice-write-out
+slice-write-out c = search needs
+
+same-length : tie.Need-same-length
+same-length c = search needs
+
+returns : tie.Need-returns
+returns c = marks _ _ _ (search needs)
+
+returns-2 : tie.Need-returns-2
+returns-2 c = marks-none _ _ _ (search needs)
+
+pub mark-spec : {M : Type 1} → statement M
+mark-spec = tie.close (tie.spec slice-write-out same-length returns returns-2)
