@@ -1,0 +1,2 @@
+-- What the reader of a query text promises.
+pub mod Answers
