@@ -6,6 +6,7 @@ ghost use mathlib.Core.Bool.{true, false};
 ghost use Prim.Native.Nat.{_<_};
 ghost use Rattle.tsparql.specs.Calls.{ceilingCall, ceilingRefused, raised, raiseOne, evaluate};
 ghost use Rattle.tsparql.specs.Totals.{totalsCall};
+ghost use Rattle.grammar.specs.ReadText.{readText};
 ghost use Rattle.patterns.specs.Matching.{viewOf};
 ghost use Rattle.randwyler.specs.Answers.{Checked, refusalIn, rewrittenIn, ceilingIn};
 ghost use Rattle.patterns.specs.Sets.{aggregationOf, aggregateOf};
@@ -16,6 +17,8 @@ use ceiling::ceiling_node;
 use evaluation::QueryRows;
 use evaluation::answer;
 use patterns::Aggregation;
+use reading::ReadAnswer;
+use reading::read_text;
 use rewriting::RewriteAnswer;
 use rewriting::rewrite;
 use scope::QueryAnswer;
@@ -29,6 +32,8 @@ use totals::total_rows;
 const EVALUATE_LIMIT: usize = 5120;
 // The number of an answer that is no refusal.
 const NO_REFUSAL: u32 = 0;
+// The length of what is written on a refusal.
+const NOTHING_WRITTEN: u64 = 0;
 
 // What a call sees of a sound table beside a sound query, or the first refusal.
 enum CheckAnswer {
@@ -99,7 +104,28 @@ pub extern "C" fn randwyler_rewrite(query: &[u8], output: &mut [u8]) -> Rewritte
         RewriteAnswer::Refused { number, place } => Rewritten {
             number,
             place: place as u64,
-            length: 0,
+            length: NOTHING_WRITTEN,
+        },
+    }
+}
+
+// ---- typed queries
+
+// The query bytes of a text into a lent output: refusals 11 and 12. Past the bytes, and on a refusal, the output is unchanged.
+#[no_mangle]
+pub extern "C" fn randwyler_read_text(text: &[u8], output: &mut [u8]) -> Rewritten
+    ensures { λ r. ⌜ rewrittenIn r (now (output .exit)) ≡ readText (now (text .entry)) (now (output .entry)) ⌝ }
+{
+    match read_text(text, output) {
+        ReadAnswer::Written(written) => Rewritten {
+            number: NO_REFUSAL,
+            place: 0,
+            length: written as u64,
+        },
+        ReadAnswer::Refused { number, place } => Rewritten {
+            number,
+            place: place as u64,
+            length: NOTHING_WRITTEN,
         },
     }
 }
