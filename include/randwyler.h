@@ -21,7 +21,7 @@ extern "C" {
 
 /* The version of this header. The first number rises where a declared call changes or goes, the second where one comes. */
 #define RANDWYLER_VERSION_MAJOR 2
-#define RANDWYLER_VERSION_MINOR 0
+#define RANDWYLER_VERSION_MINOR 1
 
 /* Sizes of tables and queries. */
 #define RANDWYLER_RECORD_BYTES 9
@@ -30,6 +30,10 @@ extern "C" {
 #define RANDWYLER_MOST_REWRITE_QUERY_BYTES 1024 /* of a query to rewrite */
 #define RANDWYLER_MOST_RESULT_BYTES 5120        /* an output of so many bytes holds every result of a rewriting */
 #define RANDWYLER_MOST_CEILING 4294967295       /* ceilings are cut here */
+
+/* Sizes of typed queries. */
+#define RANDWYLER_MOST_TEXT_BYTES 4096        /* of a text to read */
+#define RANDWYLER_MOST_TEXT_QUERY_BYTES 16384 /* an output of so many bytes holds the query of any text */
 
 /* Sizes and words of the row space. */
 #define RANDWYLER_ROW_WORDS 17               /* of a row: a cell for each variable, then the row's trust */
@@ -65,6 +69,11 @@ extern "C" {
  *   9       OUTPUT_TOO_SHORT  rewriting: the output is shorter than the result                  the bytes needed
  *   10      BAD_TOTALS        totals: the variable is above 15                                  0
  *                             totals: the output is shorter than the entries                    the words needed, never 0
+ *   11      BAD_TEXT          the text is longer than 4,096 bytes                               4,096
+ *                             the text is no query by the grammar of docs/FORMATS.md            the length of the longest start that
+ *                                                                                               it shares with some query text, of
+ *                                                                                               any length
+ *   12      NO_ROOM_FOR_QUERY the output is shorter than the query that the text stands for     the bytes needed
  *
  * If several apply, the table's come before the query's, and a lower number before a higher one. But the table's records
  * are tested one after the other: a 4 of one record comes before a 3 of a later record. And 10 at place 0 comes before 8.
@@ -80,6 +89,8 @@ extern "C" {
 #define RANDWYLER_NO_ROOM 8
 #define RANDWYLER_OUTPUT_TOO_SHORT 9
 #define RANDWYLER_BAD_TOTALS 10
+#define RANDWYLER_BAD_TEXT 11
+#define RANDWYLER_NO_ROOM_FOR_QUERY 12
 
 struct randwyler_refusal {
     uint32_t number;
@@ -88,10 +99,11 @@ struct randwyler_refusal {
 
 /* KiB of stack to give a call, answered or refused: what the deepest queries that were tried need, and a margin. They are chains of
  * each operator, and of each condition that has operands, as long as the call accepts (25 shapes; for evaluation 21 more, with a
- * join of many pairs; for totals those of evaluation and 65,535 groups). tests/archive/run measures what they need, and fails if it is
- * more than these. That no other query needs more is not proved. */
+ * join of many pairs; for totals those of evaluation and 65,535 groups; for typed queries 57 texts of 4,096 bytes). tests/archive/run
+ * measures what they need, and fails if it is more than these. That no other query needs more is not proved. */
 #define RANDWYLER_STACK_CHECK_KIB 800
 #define RANDWYLER_STACK_REWRITE_KIB 272
+#define RANDWYLER_STACK_READ_TEXT_KIB 704
 #define RANDWYLER_STACK_CEILING_KIB 800
 #define RANDWYLER_STACK_EVALUATE_KIB 1024
 #define RANDWYLER_STACK_TOTALS_KIB 1440
@@ -100,7 +112,8 @@ struct randwyler_refusal {
  * and no other memory, is written. */
 struct randwyler_refusal randwyler_check(const uint8_t *table, size_t table_len, const uint8_t *query, size_t query_len);
 
-/* Why a rewriting is refused, and where, as in struct randwyler_refusal; and the length of the result, 0 on a refusal. */
+/* Why a rewriting, or the reading of a text, is refused, and where, as in struct randwyler_refusal; and the length of the result, 0 on a
+ * refusal. */
 struct randwyler_rewritten {
     uint32_t number;
     uint64_t place;
@@ -112,6 +125,12 @@ struct randwyler_rewritten {
  * more than 5 times the query's bytes: an output of 5,120 always does. The query is not written, nor are the output's bytes behind
  * the result; on a refusal none is. */
 struct randwyler_rewritten randwyler_rewrite(const uint8_t *query, size_t query_len, uint8_t *output, size_t output_len);
+
+/* Reads a typed query: writes the query that the text stands for to the front of the output, as the other calls take it. Takes a text of
+ * at most 4,096 bytes; the refusals are 11 and 12. No query has more than 4 times the text's bytes: an output of 16,384 always does. A
+ * query that was written is well-formed, but may be longer than a call accepts, or have a clash of variables: the other calls refuse it
+ * with 5 or 7 then, and never with 6. The text is not written, nor are the output's bytes behind the query; on a refusal none is. */
+struct randwyler_rewritten randwyler_read_text(const uint8_t *text, size_t text_len, uint8_t *output, size_t output_len);
 
 /* Why a ceiling is refused, and where, as in struct randwyler_refusal; and the ceiling, 0 on a refusal. */
 struct randwyler_ceiling {

@@ -6,7 +6,7 @@
 
 // The header's version of these declarations.
 pub const VERSION_MAJOR: u32 = 2;
-pub const VERSION_MINOR: u32 = 0;
+pub const VERSION_MINOR: u32 = 1;
 
 // Sizes of tables and queries.
 pub const RECORD_BYTES: usize = 9;
@@ -19,6 +19,12 @@ pub const MOST_REWRITE_QUERY_BYTES: usize = 1_024;
 pub const MOST_RESULT_BYTES: usize = 5_120;
 /// Ceilings are cut here.
 pub const MOST_CEILING: u32 = 4_294_967_295;
+
+// Sizes of typed queries.
+/// Of a text to read.
+pub const MOST_TEXT_BYTES: usize = 4_096;
+/// An output of so many bytes holds the query of any text.
+pub const MOST_TEXT_QUERY_BYTES: usize = 16_384;
 
 // Sizes and words of the row space.
 /// Of a row: a cell for each variable, then the row's trust.
@@ -54,11 +60,14 @@ pub const VARIABLE_CLASH: u32 = 7;
 pub const NO_ROOM: u32 = 8;
 pub const OUTPUT_TOO_SHORT: u32 = 9;
 pub const BAD_TOTALS: u32 = 10;
+pub const BAD_TEXT: u32 = 11;
+pub const NO_ROOM_FOR_QUERY: u32 = 12;
 
 // KiB of stack to give a call: what the deepest queries that were tried need (25 shapes; for evaluation 21 more, and for totals the
-// same and 65,535 groups), and a margin. That no other query needs more is not proved.
+// same and 65,535 groups; for typed queries 57 texts of 4,096 bytes), and a margin. That no other query needs more is not proved.
 pub const STACK_CHECK_KIB: usize = 800;
 pub const STACK_REWRITE_KIB: usize = 272;
+pub const STACK_READ_TEXT_KIB: usize = 704;
 pub const STACK_CEILING_KIB: usize = 800;
 pub const STACK_EVALUATE_KIB: usize = 1024;
 pub const STACK_TOTALS_KIB: usize = 1440;
@@ -71,7 +80,7 @@ pub struct Refusal {
     pub place: u64,
 }
 
-/// The same of a rewriting, and the length of the result.
+/// The same of a rewriting, or of the reading of a text, and the length of the result.
 #[repr(C)]
 #[derive(Clone, Copy, Debug, PartialEq, Eq)]
 pub struct Rewritten {
@@ -126,6 +135,7 @@ pub mod raw {
     extern "C" {
         pub fn randwyler_check(table: *const u8, table_len: usize, query: *const u8, query_len: usize) -> Refusal;
         pub fn randwyler_rewrite(query: *const u8, query_len: usize, output: *mut u8, output_len: usize) -> Rewritten;
+        pub fn randwyler_read_text(text: *const u8, text_len: usize, output: *mut u8, output_len: usize) -> Rewritten;
         pub fn randwyler_ceiling_of(table: *const u8, table_len: usize, query: *const u8, query_len: usize) -> Ceiling;
         pub fn randwyler_evaluate(
             table: *const u8,
@@ -161,6 +171,11 @@ pub fn check(table: &[u8], query: &[u8]) -> Refusal {
 pub fn rewrite(query: &[u8], output: &mut [u8]) -> Rewritten {
     // SAFETY: the pointers and lengths are those of slices; the query is only read, and the output is lent to be written.
     unsafe { raw::randwyler_rewrite(query.as_ptr(), query.len(), output.as_mut_ptr(), output.len()) }
+}
+
+pub fn read_text(text: &[u8], output: &mut [u8]) -> Rewritten {
+    // SAFETY: the pointers and lengths are those of slices; the text is only read, and the output is lent to be written.
+    unsafe { raw::randwyler_read_text(text.as_ptr(), text.len(), output.as_mut_ptr(), output.len()) }
 }
 
 pub fn ceiling_of(table: &[u8], query: &[u8]) -> Ceiling {
