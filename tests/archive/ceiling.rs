@@ -151,6 +151,7 @@ fn deepest() -> Deepest<Ceiling> {
         chains: chains::all(&[], CHECK_LIMIT),
         shallow: chains::of_few_pairs(),
         shallow_kib: stack::SHALLOW,
+        refusal: stack::of_query,
         call: |query| ffi::ceiling(&chains::table(), query),
         expected: |query| ceilings::ceiling(&chains::table(), query),
     }

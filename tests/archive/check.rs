@@ -136,6 +136,7 @@ fn deepest() -> Deepest<Refusal> {
         chains: chains::all(&[], CHECK_LIMIT),
         shallow: chains::of_few_pairs(),
         shallow_kib: stack::SHALLOW,
+        refusal: stack::of_query,
         call: |query| ffi::check(&[], query),
         expected: |query| paper::check(&[], query),
     }

@@ -420,6 +420,7 @@ fn deepest() -> Deepest<[(Evaluated, Vec<u32>); CHOICES.len()]> {
         chains: chains::all(&[], CHECK_LIMIT).into_iter().chain(chains::of_many_pairs(CHECK_LIMIT)).collect(),
         shallow: chains::of_few_pairs(),
         shallow_kib: stack::SHALLOW,
+        refusal: stack::of_query,
         call: |query| {
             CHOICES.map(|choice| {
                 let mut space = vec![0xA5; CHAIN_WORDS];

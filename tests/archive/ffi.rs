@@ -4,7 +4,8 @@
 mod randwyler;
 
 use crate::paper::{Ceiling, Choice, Evaluated, Inputs, Refusal, Rewritten, Tally, Totalled};
-use randwyler::raw::{randwyler_ceiling_of, randwyler_check, randwyler_evaluate, randwyler_rewrite, randwyler_totals_of};
+use randwyler::raw::{randwyler_ceiling_of, randwyler_check, randwyler_evaluate};
+use randwyler::raw::{randwyler_read_text, randwyler_rewrite, randwyler_totals_of};
 
 /// The pointer and length of a slice; none is NULL with length 0.
 fn parts(slice: Option<&[u8]>) -> (*const u8, usize) {
@@ -39,6 +40,19 @@ pub fn rewrite_or_null(query: Option<&[u8]>, output: Option<&mut [u8]>) -> Rewri
 
 pub fn rewrite(query: &[u8], output: &mut [u8]) -> Rewritten {
     rewrite_or_null(Some(query), Some(output))
+}
+
+/// `randwyler_read_text`, with NULL for none.
+pub fn read_text_or_null(text: Option<&[u8]>, output: Option<&mut [u8]>) -> Rewritten {
+    let (text, text_len) = parts(text);
+    let (output, output_len) = parts_mut(output);
+    // SAFETY: both pointers are NULL with length 0 or a slice's own; the call only reads the text, and the output is ours.
+    let answer = unsafe { randwyler_read_text(text, text_len, output, output_len) };
+    Rewritten { refusal: Refusal { number: answer.number, place: answer.place }, length: answer.length }
+}
+
+pub fn read_text(text: &[u8], output: &mut [u8]) -> Rewritten {
+    read_text_or_null(Some(text), Some(output))
 }
 
 /// `randwyler_ceiling_of`, with NULL for none.

@@ -3,6 +3,8 @@
 
 mod chains;
 mod conditions;
+mod deep_texts;
+mod grammar;
 mod groups;
 mod limits;
 mod means;
@@ -14,6 +16,7 @@ mod randwyler;
 mod report;
 mod rows;
 mod tables;
+mod typed;
 mod vectors;
 
 use randwyler::*;
@@ -74,7 +77,28 @@ fn refusals(report: &mut Report) {
     ] {
         number(report, &format!("rewriting, {what}"), expected, rewrite(query, &mut output[..room]).number);
     }
+    for (what, expected, text, room) in [
+        ("a right text", ANSWERED, "{}", 1),
+        ("no text", BAD_TEXT, "", 1),
+        ("a text with a fault", BAD_TEXT, "{.}", 1),
+        ("no output", NO_ROOM_FOR_QUERY, "{}", 0),
+    ] {
+        number(report, &format!("a text, {what}"), expected, read_text(text.as_bytes(), &mut output[..room]).number);
+    }
     number(report, "no row space", NO_ROOM, in_words(&w, &[0x00], 0).0.number);
+}
+
+/// A text of the greatest length, and one more byte; what was read is taken by all other calls.
+fn texts(report: &mut Report) {
+    let mut output = [0; MOST_TEXT_QUERY_BYTES];
+    let mut text = b"{?0 20 21 OPTIONAL{?0 10 ?1}}".to_vec();
+    for (length, expected) in [(MOST_TEXT_BYTES, ANSWERED), (MOST_TEXT_BYTES + 1, BAD_TEXT)] {
+        text.resize(length, b' ');
+        number(report, &format!("a text of {length} bytes"), expected, read_text(&text, &mut output).number);
+    }
+    let query = vectors::query("20 70 A B");
+    report.case(output.starts_with(&query), || "a text of the greatest length: other bytes".to_string());
+    all_but_rewrite(report, "a query that was read", ANSWERED, &tables::w(), &output[..query.len()]);
 }
 
 /// What is just taken, and what is refused for one more.
@@ -206,6 +230,8 @@ fn readings(report: &mut Report) {
         ("MOST_QUERY_BYTES", MOST_QUERY_BYTES, paper::CHECK_LIMIT),
         ("MOST_REWRITE_QUERY_BYTES", MOST_REWRITE_QUERY_BYTES, push::REWRITE_LIMIT),
         ("MOST_RESULT_BYTES", MOST_RESULT_BYTES, push::MOST_RESULT),
+        ("MOST_TEXT_BYTES", MOST_TEXT_BYTES, typed::TEXT_LIMIT),
+        ("MOST_TEXT_QUERY_BYTES", MOST_TEXT_QUERY_BYTES, typed::MOST_QUERY),
         ("ROW_WORDS", ROW_WORDS, rows::ROW_WORDS),
         ("VARIABLES", VARIABLES, paper::VARIABLES as usize),
         ("MOST_ROWS", MOST_ROWS, rows::MOST_ROWS),
@@ -220,12 +246,15 @@ fn readings(report: &mut Report) {
 fn shapes(report: &mut Report) {
     let (all, more) = (chains::all(&[], MOST_QUERY_BYTES).len(), chains::of_many_pairs(MOST_QUERY_BYTES).len());
     let shapes = format!("{all} shapes; for evaluation {more} more");
+    let texts = format!("for typed queries {} texts of 4,096 bytes", deep_texts::all().len());
     for (file, text) in [
         ("include/randwyler.h", include_str!("../../include/randwyler.h")),
         ("include/randwyler.rs", include_str!("../../include/randwyler.rs")),
         ("docs/INTEGRATION.md", include_str!("../../docs/INTEGRATION.md")),
     ] {
+        let text = text.split([' ', '\n', '*', '/']).filter(|word| !word.is_empty()).collect::<Vec<_>>().join(" ");
         report.case(text.contains(&shapes), || format!("{file} does not say {shapes}"));
+        report.case(text.contains(&texts), || format!("{file} does not say {texts}"));
     }
 }
 
@@ -234,6 +263,7 @@ fn main() {
     refusals(&mut report);
     report.part("refusals");
     greatest_inputs(&mut report);
+    texts(&mut report);
     row_spaces(&mut report);
     outputs(&mut report);
     words(&mut report);

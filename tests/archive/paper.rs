@@ -174,6 +174,14 @@ impl Kind {
             Kind::Ensure(..) => 6,
         }
     }
+
+    pub fn operands(&self) -> Vec<&Node> {
+        match self {
+            Kind::Patterns(_) => vec![],
+            Kind::Join(left, right) | Kind::LeftJoin(_, left, right) | Kind::Union(left, right) => vec![left, right],
+            Kind::Filter(_, node) | Kind::Project(_, node) | Kind::Ensure(_, _, node) => vec![node],
+        }
+    }
 }
 
 /// A fault is the place of the innermost piece that has it: a node, a condition, a pattern.
@@ -291,14 +299,7 @@ impl Node {
     /// Calls `visit` for this node and all below it, in prefix order.
     pub fn each<'a>(&'a self, visit: &mut impl FnMut(&'a Node)) {
         visit(self);
-        match &self.kind {
-            Kind::Patterns(_) => {}
-            Kind::Join(left, right) | Kind::LeftJoin(_, left, right) | Kind::Union(left, right) => {
-                left.each(visit);
-                right.each(visit);
-            }
-            Kind::Filter(_, node) | Kind::Project(_, node) | Kind::Ensure(_, _, node) => node.each(visit),
-        }
+        self.kind.operands().into_iter().for_each(|node| node.each(visit));
     }
 
     /// The first project trust, in prefix order, whose variable is also a pattern's or a second project trust's.

@@ -1,6 +1,6 @@
 //! An independent rewriting, written from document 01: the push on the tree of paper.rs, and the bytes of a tree.
 
-use crate::paper::{self, refusal, Condition, Kind, Node, Pattern, Refusal, Rewritten, Slot, MOST_TRUST, NONE};
+use crate::paper::{self, Condition, Kind, Node, Pattern, Refusal, Slot, MOST_TRUST};
 
 /// The longest query that the rewriting takes.
 pub const REWRITE_LIMIT: usize = 1_024;
@@ -132,21 +132,15 @@ fn write_node(node: &Node, to: &mut Vec<u8>) {
     }
 }
 
+pub fn bytes(tree: &Node) -> Vec<u8> {
+    let mut bytes = Vec::new();
+    write_node(tree, &mut bytes);
+    bytes
+}
+
 // ---- The call
 
 /// The result for a query, or the refusal that needs no output.
 pub fn rewriting(query: &[u8], seen: &mut Seen) -> Result<Vec<u8>, Refusal> {
-    let tree = push(paper::query(query, REWRITE_LIMIT)?, None, seen);
-    let mut bytes = Vec::new();
-    write_node(&tree, &mut bytes);
-    Ok(bytes)
-}
-
-/// The answer for an output of `room` bytes, and what is written to its front.
-pub fn answer(rewriting: &Result<Vec<u8>, Refusal>, room: usize) -> (Rewritten, &[u8]) {
-    match rewriting {
-        Err(refused) => (Rewritten { refusal: *refused, length: 0 }, &[]),
-        Ok(result) if result.len() > room => (Rewritten { refusal: refusal(9, result.len()), length: 0 }, &[]),
-        Ok(result) => (Rewritten { refusal: NONE, length: result.len() as u64 }, result),
-    }
+    Ok(bytes(&push(paper::query(query, REWRITE_LIMIT)?, None, seen)))
 }

@@ -35,9 +35,9 @@ impl Report {
         self.answer(what, expected, got, || format!("check {} {}", hex(table), hex(query)));
     }
 
-    /// Counts a case of the rewriting, into an output of `room` bytes.
-    pub fn rewrite(&mut self, what: &str, query: &[u8], room: usize, expected: Rewritten, got: Rewritten) {
-        self.answer(what, expected, got, || format!("rewrite {} {room}", hex(query)));
+    /// Counts a case of the rewriting, or of the reading of a text, into an output of `room` bytes.
+    pub fn written(&mut self, call: &str, what: &str, (input, room): (&[u8], usize), expected: Rewritten, got: Rewritten) {
+        self.answer(what, expected, got, || format!("{call} {} {room}", hex(input)));
     }
 
     /// Counts a case of the ceiling.

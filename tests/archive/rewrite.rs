@@ -4,69 +4,37 @@
 mod chains;
 mod fence;
 mod ffi;
+mod grammar;
 mod limits;
 mod longest;
+mod pages;
 mod paper;
 mod push;
 mod queries;
 mod random;
 mod report;
+mod results;
 mod stack;
 mod tables;
 mod threads;
+mod typed;
 mod vectors;
 
-use fence::{Fenced, Lender};
 use limits::AtLimit;
-use paper::{refusal, Refusal, Rewritten, NONE};
+use paper::{refusal, Rewritten, NONE};
 use push::{Seen, MOST_RESULT, NODE_KINDS, REWRITE_LIMIT, UNDER};
 use queries::{Nested, KINDS};
 use random::Random;
 use report::Report;
+use results::{Outcome, Outputs, REWRITE};
 use stack::Deepest;
 
 const SOUND_CASES: usize = 240_000;
 const DAMAGED_CASES: usize = 100_000;
 
-/// What an independent push makes of a query.
-type Pushed = Result<Vec<u8>, Refusal>;
-
 /// The rewriting by push.rs, where nobody counts the bounds.
-fn pushed(query: &[u8]) -> Pushed {
+fn pushed(query: &[u8]) -> Outcome {
     push::rewriting(query, &mut Seen::default())
-}
-
-/// Outputs to lend to calls.
-struct Outputs(Lender<u8>);
-
-impl Outputs {
-    fn new(seed: u64) -> Outputs {
-        Outputs(Lender::new(seed, MOST_RESULT))
-    }
-
-    /// Calls with the query and an output of `room` bytes, each between random bytes at random alignments. The case fails if
-    /// the answer is not the expected one, or if a byte differs that is not the result's.
-    fn test(&mut self, report: &mut Report, what: &str, query: &[u8], expected: &Pushed, room: usize) {
-        let (answer, written) = push::answer(expected, room);
-        let around_query = Fenced::new(&mut self.0.random, query);
-        let mut output = self.0.lend(room);
-        let got = ffi::rewrite(around_query.slice(), output.slice_mut());
-        if got == answer && !(output.holds(written) && around_query.holds(&[])) {
-            return report.case(false, || format!("{what}: wrong bytes after rewrite {} {room}", report::hex(query)));
-        }
-        report.rewrite(what, query, room, answer, got);
-    }
-
-    /// The same with outputs that are too short, just long enough, and longer.
-    fn test_rooms(&mut self, report: &mut Report, what: &str, query: &[u8], expected: &Pushed) {
-        let rooms = match expected {
-            Ok(result) => vec![0, result.len() - 1, result.len(), result.len() + 1, MOST_RESULT],
-            Err(_) => vec![0, query.len(), MOST_RESULT],
-        };
-        for room in rooms {
-            self.test(report, what, query, expected, room);
-        }
-    }
 }
 
 /// What was rewritten passes the check, and is its own rewriting if it is short enough.
@@ -76,29 +44,18 @@ fn again(report: &mut Report, what: &str, result: &[u8]) {
         let mut output = vec![0xA5; MOST_RESULT];
         let got = ffi::rewrite(result, &mut output);
         let length = result.len() as u64;
-        report.rewrite(what, result, MOST_RESULT, Rewritten { refusal: NONE, length }, got);
+        report.written("rewrite", what, (result, MOST_RESULT), Rewritten { refusal: NONE, length }, got);
         report.case(output.starts_with(result), || format!("{what}: rewriting {} again differs", report::hex(result)));
     }
 }
 
-/// A vector is `QUERY ROOM => NUMBER PLACE LENGTH WRITTEN`.
 fn vectors(report: &mut Report) {
-    let mut outputs = Outputs::new(1);
-    for vector in vectors::of("rewrite", include_str!("../vectors/base.txt")) {
-        let (query, room) = (vectors::bytes(&vector.inputs[0]), vectors::number(&vector.inputs[1]) as usize);
-        let [number, place, length] = [0, 1, 2].map(|i| vectors::number(&vector.answer[i]));
-        let written = vectors::bytes(&vector.answer[3]);
-        let expected = Rewritten { refusal: Refusal { number: number as u32, place }, length };
-        let what = format!("line {} of base.txt", vector.line);
-        let read = pushed(&query);
-        report.case(push::answer(&read, room) == (expected, &written), || format!("{what}: push.rs differs"));
-        outputs.test(report, &what, &query, &read, room);
-    }
+    Outputs::new(REWRITE, 1).test_vectors(report, "base.txt", include_str!("../vectors/base.txt"), pushed);
 }
 
 /// Queries and their rewritings, both written down by hand.
 fn by_hand(report: &mut Report) {
-    let mut outputs = Outputs::new(2);
+    let mut outputs = Outputs::new(REWRITE, 2);
     for (what, query, result) in [
         ("a join, u = 1000", "60 5dc7d0 10 A B", "10 60 5dc7d0 A 60 5dc7d0 B"),
         ("a join, u = 500", "60 5dc5dc 10 A B", "60 5dc5dc 10 60 5dc7d0 A 60 5dc7d0 B"),
@@ -125,7 +82,8 @@ fn null_pointers(report: &mut Report) {
     let refused = |number, place| Rewritten { refusal: refusal(number, place), length: 0 };
     let mut test = |what, query: Option<&[u8]>, output: Option<&mut [u8]>, expected| {
         let room = output.as_ref().map_or(0, |bytes| bytes.len());
-        report.rewrite(what, query.unwrap_or(&[]), room, expected, ffi::rewrite_or_null(query, output));
+        let input = (query.unwrap_or(&[]), room);
+        report.written("rewrite", what, input, expected, ffi::rewrite_or_null(query, output));
     };
     let mut output = [0xA5; 4];
     test("NULL query", None, Some(&mut output), refused(6, 0));
@@ -139,7 +97,7 @@ fn null_pointers(report: &mut Report) {
 }
 
 fn query_limits(report: &mut Report) {
-    let mut outputs = Outputs::new(3);
+    let mut outputs = Outputs::new(REWRITE, 3);
     for AtLimit { what, query, refusal } in limits::about(REWRITE_LIMIT) {
         let expected = pushed(&query);
         report.case(expected.as_ref().err().unwrap_or(&NONE) == &refusal, || format!("{what}: push.rs differs"));
@@ -154,7 +112,7 @@ fn longest_results(report: &mut Report) {
     let below_1000 = [0x60, 0x5D, 0xC7, 0xCF];
     let odd = [&below_1000[..], &[0x30].repeat(JOINS - 1), &[0x10, 0x00, 0x00].repeat(JOINS)].concat();
     let even = [&[0x50], &odd[..]].concat();
-    let mut outputs = Outputs::new(4);
+    let mut outputs = Outputs::new(REWRITE, 4);
     let longest = longest::results(REWRITE_LIMIT);
     for (query, bytes, most) in [(odd, 1_023, 4_079), (even, 1_024, 4_080)] {
         let what = format!("the longest result of {bytes} bytes");
@@ -171,7 +129,7 @@ fn longest_results(report: &mut Report) {
 }
 
 fn random_cases(report: &mut Report) {
-    let (mut random, mut outputs) = (Random::new(5), Outputs::new(6));
+    let (mut random, mut outputs) = (Random::new(5), Outputs::new(REWRITE, 6));
     let mut nested: Nested = [[0; KINDS]; KINDS];
     let (mut seen, mut numbers) = (Seen::default(), [0u64; 10]);
     for number in 0..SOUND_CASES + DAMAGED_CASES {
@@ -204,12 +162,7 @@ fn on_threads(report: &mut Report) {
         let room = random.pick(&[expected.as_ref().map_or(0, Vec::len) + 1, MOST_RESULT]);
         (query, expected, room)
     };
-    threads::all_right(report, make, |(query, expected, room)| {
-        let mut output = vec![0xA5; *room];
-        let (answer, written) = push::answer(expected, *room);
-        let got = ffi::rewrite(query, &mut output);
-        got == answer && output.starts_with(written) && output[written.len()..].iter().all(|byte| *byte == 0xA5)
-    });
+    threads::all_right(report, make, |(query, expected, room)| REWRITE.is_right(query, expected, *room));
 }
 
 /// Every chain under none, under u = 1000 and under u = 999.
@@ -220,17 +173,9 @@ fn deepest() -> Deepest<(Rewritten, Vec<u8>)> {
         chains: roots.iter().flat_map(|root| chains::all(root, REWRITE_LIMIT)).collect(),
         shallow: chains::of_few_pairs(),
         shallow_kib: stack::SHALLOW,
-        call: |query| {
-            let mut output = vec![0; MOST_RESULT];
-            let answer = ffi::rewrite(query, &mut output);
-            output.truncate(answer.length as usize);
-            (answer, output)
-        },
-        expected: |query| {
-            let pushed = pushed(query);
-            let (answer, written) = push::answer(&pushed, MOST_RESULT);
-            (answer, written.to_vec())
-        },
+        refusal: stack::of_query,
+        call: |query| REWRITE.written(query),
+        expected: |query| REWRITE.expected(&pushed(query)),
     }
 }
 

@@ -1,7 +1,7 @@
 //! The stack of a test program, and the least stack on which a call answers its deepest queries.
 
 use crate::chains::Chain;
-use crate::paper::{self, NONE};
+use crate::paper::{self, Refusal, NONE};
 use crate::report::Report;
 use std::process::{Command, Stdio};
 use std::thread;
@@ -25,9 +25,16 @@ pub struct Deepest<Answer> {
     /// Queries of a few levels that do with little stack, in KiB: no large local stands in a frame of theirs, but for the call's own.
     pub shallow: Vec<Chain>,
     pub shallow_kib: usize,
+    /// The refusal of a query by itself, by an independent reading.
+    pub refusal: fn(&[u8]) -> Refusal,
     pub call: fn(&[u8]) -> Answer,
     /// The answer by an independent reading.
     pub expected: fn(&[u8]) -> Answer,
+}
+
+/// The refusal of a query, whatever its length.
+pub fn of_query(query: &[u8]) -> Refusal {
+    paper::query(query, query.len()).err().unwrap_or(NONE)
 }
 
 impl<Answer: PartialEq + Send> Deepest<Answer> {
@@ -47,7 +54,7 @@ impl<Answer: PartialEq + Send> Deepest<Answer> {
 
     /// The deepest queries on 8 MiB of stack, and the least stack that does.
     pub fn test(&self, report: &mut Report) {
-        if child_status(MOST).is_none() {
+        if child_status(MOST, None).is_none() {
             println!("least stack: above {MOST} KiB");
             return report.case(false, || format!("the deepest query overflows a stack of {MOST} KiB"));
         }
@@ -55,11 +62,11 @@ impl<Answer: PartialEq + Send> Deepest<Answer> {
         let kib = self.shallow_kib;
         report.case(shallow, || format!("a shallow query is not answered right on a stack of {kib} KiB"));
         for (chain, got) in self.chains.iter().zip(self.answers(&self.chains, MOST)) {
-            let read = paper::query(&chain.query, chain.query.len()).err().unwrap_or(NONE);
-            report.case(read == chain.refusal, || format!("{}: paper.rs differs", chain.name));
+            let read = (self.refusal)(&chain.query);
+            report.case(read == chain.refusal, || format!("{}: the independent reading differs", chain.name));
             report.case(got == (self.expected)(&chain.query), || format!("{}: another answer", chain.name));
         }
-        let Some(least) = least() else {
+        let Some(least) = least(None) else {
             println!("least stack: not measured, since an answer is wrong");
             return report.case(false, || "the least stack cannot be measured".to_string());
         };
@@ -67,6 +74,16 @@ impl<Answer: PartialEq + Send> Deepest<Answer> {
         let promised = self.promised();
         report
             .case(least <= promised, || format!("the header says that {promised} KiB of stack do, but {least} are needed"));
+    }
+
+    /// Prints the least stack for each of the deepest queries alone.
+    fn print_each(&self) {
+        for (number, chain) in self.chains.iter().enumerate() {
+            match least(Some(number)) {
+                Some(least) => println!("{least} KiB: {}", chain.name),
+                None => println!("not on {MOST} KiB: {}", chain.name),
+            }
+        }
     }
 
     fn promised(&self) -> usize {
@@ -78,24 +95,23 @@ impl<Answer: PartialEq + Send> Deepest<Answer> {
 }
 
 /// The exit status of this program with other arguments; none if a signal ended it, as an overflow does.
-fn run_child(arguments: &[&str]) -> Option<i32> {
+pub fn run_child(arguments: &[&str]) -> Option<i32> {
     let program = std::env::current_exe().expect("the path of this program");
     let mut command = Command::new(program);
     command.args(arguments).stdout(Stdio::null()).stderr(Stdio::null());
     command.status().expect("a child process").code()
 }
 
-/// The exit status of a child with so many KiB of stack for the deepest queries.
-fn child_status(kib: usize) -> Option<i32> {
-    run_child(&["--stack", &kib.to_string()])
-}
-
-fn fits(kib: usize) -> bool {
-    child_status(kib) == Some(0)
+/// The exit status of a child with so many KiB of stack for the deepest queries, or for one of them.
+fn child_status(kib: usize, chain: Option<usize>) -> Option<i32> {
+    let mut arguments = vec!["--stack".to_string(), kib.to_string()];
+    arguments.extend(chain.map(|number| number.to_string()));
+    run_child(&arguments.iter().map(String::as_str).collect::<Vec<_>>())
 }
 
 /// The least stack in KiB on which every answer is right, found by bisection; none if `MOST` is too small.
-fn least() -> Option<usize> {
+fn least(chain: Option<usize>) -> Option<usize> {
+    let fits = |kib| child_status(kib, chain) == Some(0);
     if !fits(MOST) {
         return None;
     }
@@ -115,8 +131,8 @@ fn least() -> Option<usize> {
 }
 
 /// What a test program's main does: runs the test's own `parts`, and then, as every call's test, threads and the deepest queries; or, as
-/// a child with `--stack KIB`, ends with 0 if the deepest queries are answered right on so small a stack, and with `--shallow`, if the
-/// shallow ones are on theirs.
+/// a child with `--stack KIB`, ends with 0 if the deepest queries are answered right on so small a stack, or that of a number behind it,
+/// and with `--shallow`, if the shallow ones are on theirs. With `--each` it prints the least stack for each of the deepest queries.
 pub fn main<Answer: PartialEq + Send + 'static>(
     parts: fn(&mut Report),
     on_threads: fn(&mut Report),
@@ -134,18 +150,24 @@ pub fn main<Answer: PartialEq + Send + 'static>(
     let arguments: Vec<String> = std::env::args().skip(1).collect();
     let act: Box<dyn FnOnce() -> i32 + Send> = match &arguments[..] {
         [] => Box::new(run),
-        [option, kib] if option == "--stack" => {
+        [option, kib, chain @ ..] if option == "--stack" && chain.len() < 2 => {
             let kib = kib.parse().expect("a number of KiB");
+            let chain: Option<usize> = chain.first().map(|number| number.parse().expect("a number of a query"));
             Box::new(move || {
                 let deepest = deepest();
-                i32::from(!deepest.right_on(&deepest.chains, kib))
+                let chains = chain.map_or(&deepest.chains[..], |number| &deepest.chains[number..=number]);
+                i32::from(!deepest.right_on(chains, kib))
             })
         }
         [option] if option == "--shallow" => Box::new(move || {
             let deepest = deepest();
             i32::from(!deepest.right_on(&deepest.shallow, deepest.shallow_kib))
         }),
-        _ => panic!("the options are --stack KIB and --shallow"),
+        [option] if option == "--each" => Box::new(move || {
+            deepest().print_each();
+            0
+        }),
+        _ => panic!("the options are --stack KIB, --shallow and --each"),
     };
     let status = thread::Builder::new().stack_size(OWN_STACK).spawn(act).expect("a thread").join().unwrap_or(101);
     std::process::exit(status);

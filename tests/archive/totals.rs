@@ -316,6 +316,7 @@ fn deepest() -> Deepest<[(Totalled, Vec<u32>, Vec<u32>); CHOICES.len()]> {
         chains: chains.chain([many]).collect(),
         shallow: chains::of_few_pairs(),
         shallow_kib: SHALLOW,
+        refusal: stack::of_query,
         call: |query| {
             let (table, [words, room]) = chain_inputs(query);
             CHOICES.map(|choice| {

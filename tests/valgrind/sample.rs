@@ -3,22 +3,32 @@
 
 #[path = "../archive/ceilings.rs"]
 mod ceilings;
+#[path = "../archive/chains.rs"]
+mod chains;
 #[path = "../archive/conditions.rs"]
 mod conditions;
+#[path = "../archive/deep_texts.rs"]
+mod deep_texts;
 #[path = "../archive/fence.rs"]
 mod fence;
 #[path = "../archive/ffi.rs"]
 mod ffi;
+#[path = "../archive/grammar.rs"]
+mod grammar;
 #[path = "../archive/groups.rs"]
 mod groups;
 #[path = "../archive/inputs.rs"]
 mod inputs;
+#[path = "../archive/known_typed.rs"]
+mod known_typed;
 #[path = "../archive/left_joins.rs"]
 mod left_joins;
 #[path = "../archive/means.rs"]
 mod means;
 #[path = "../archive/outputs.rs"]
 mod outputs;
+#[path = "../archive/pages.rs"]
+mod pages;
 #[path = "../archive/paper.rs"]
 mod paper;
 #[path = "../archive/push.rs"]
@@ -29,12 +39,18 @@ mod queries;
 mod random;
 #[path = "../archive/report.rs"]
 mod report;
+#[path = "../archive/results.rs"]
+mod results;
 #[path = "../archive/rows.rs"]
 mod rows;
 #[path = "../archive/spaces.rs"]
 mod spaces;
 #[path = "../archive/tables.rs"]
 mod tables;
+#[path = "../archive/texts.rs"]
+mod texts;
+#[path = "../archive/typed.rs"]
+mod typed;
 #[path = "../archive/vectors.rs"]
 mod vectors;
 
@@ -43,6 +59,7 @@ use paper::{Inputs, Tally, CHOICES};
 use queries::KINDS;
 use random::Random;
 use report::Report;
+use results::{Call, READ_TEXT, REWRITE};
 use rows::{Outcome, Seen};
 use std::ops::RangeInclusive;
 
@@ -51,6 +68,8 @@ const MOST_SPACE: usize = 200;
 const MOST_STEPS: u64 = 4_000;
 /// First bytes of sets of over 7 patterns.
 const LONG_SETS: RangeInclusive<u8> = 0x08..=0x0F;
+/// Stack for the program itself.
+const OWN_STACK: usize = 64 << 20;
 /// Bytes of the longest output behind the result.
 const BEHIND: usize = 8;
 const TALLY: Tally = Tally { answered: 4, refused: u32::MAX };
@@ -60,19 +79,7 @@ fn test(report: &mut Report, random: &mut Random, what: &str, inputs: Inputs, se
     let (table, query, _) = inputs;
     report.check(what, table, query, paper::check(table, query), ffi::check(table, query));
     report.ceiling(what, table, query, ceilings::ceiling(table, query), ffi::ceiling(table, query));
-    let pushed = push::rewriting(query, &mut push::Seen::default());
-    let needed = pushed.as_ref().map_or(query.len() + 1, Vec::len);
-    for room in [needed - 1, needed, needed + BEHIND] {
-        let before = random.noise(room);
-        let mut output = before.clone().into_boxed_slice();
-        let (answer, written) = push::answer(&pushed, room);
-        report.rewrite(what, query, room, answer, ffi::rewrite(query, &mut output));
-        // The result at the front, and every other byte as it was. An output of no bytes cannot differ.
-        if room > 0 {
-            let right = output.starts_with(written) && output[written.len()..] == before[written.len()..];
-            report.case(right, || format!("{what}: wrong bytes after rewrite {} {room}", report::hex(query)));
-        }
-    }
+    test_written(report, random, what, (&REWRITE, query), &push::rewriting(query, &mut push::Seen::default()));
     let mut here = Seen::default();
     let Some(outcome) = rows::evaluate_within(inputs, MOST_SPACE, MOST_STEPS, &mut here) else { return false };
     if outcome.has_rows() {
@@ -90,6 +97,45 @@ fn test(report: &mut Report, random: &mut Random, what: &str, inputs: Inputs, se
     }
     test_totals(report, random, what, inputs, &outcome);
     outcome.has_rows()
+}
+
+/// A call that writes bytes, with outputs that are too short, just long enough, and longer.
+fn test_written(
+    report: &mut Report,
+    random: &mut Random,
+    what: &str,
+    (call, input): (&Call, &[u8]),
+    outcome: &results::Outcome,
+) {
+    let needed = outcome.as_ref().map_or(input.len() + 1, Vec::len);
+    for room in [needed - 1, needed, needed + BEHIND] {
+        let before = random.noise(room);
+        let mut output = before.clone().into_boxed_slice();
+        let (answer, written) = call.answer(outcome, room);
+        report.written(call.name, what, (input, room), answer, (call.call)(input, &mut output));
+        // The result at the front, and every other byte as it was. An output of no bytes cannot differ.
+        if room > 0 {
+            let right = output.starts_with(written) && output[written.len()..] == before[written.len()..];
+            report.case(right, || format!("{what}: wrong bytes after {} {} {room}", call.name, report::hex(input)));
+        }
+    }
+}
+
+/// Texts by hand, about as long as the limit, deep, and random.
+fn test_texts(report: &mut Report, random: &mut Random) {
+    let accepted = known_typed::accepted().into_iter().map(|(text, _)| text.into_bytes());
+    let refused = known_typed::refused().into_iter().step_by(7).map(|(text, _)| text);
+    let at_limit = known_typed::at_limit().into_iter().map(|(_, text, _)| text);
+    let deep = deep_texts::all().into_iter().map(|chain| chain.query);
+    let mut texts: Vec<Vec<u8>> = accepted.chain(refused).chain(at_limit).chain(deep).collect();
+    texts.extend((0..CASES).map(|number| match number % 2 {
+        0 => texts::sound(random, 5),
+        _ => texts::damaged(random),
+    }));
+    for (number, text) in texts.into_iter().enumerate() {
+        let (what, text) = (format!("text {number}"), text.into_boxed_slice());
+        test_written(report, random, &what, (&READ_TEXT, &text), &typed::query(&text));
+    }
 }
 
 /// Totals of a variable. An output with nothing written in it shows what an answer depends on, one with noise what is written.
@@ -111,7 +157,7 @@ fn test_totals(report: &mut Report, random: &mut Random, what: &str, inputs: Inp
     }
 }
 
-fn main() {
+fn run() -> i32 {
     let (mut report, mut random) = (Report::default(), Random::new(1));
     let (mut errors, mut means, mut long_sets) = (0, 0, 0);
     for number in 0..CASES {
@@ -135,5 +181,12 @@ fn main() {
     report.case(errors >= 50, || format!("only {errors} cases with a left row kept on an error"));
     report.case(means >= 50, || format!("only {means} cases with a mean that is not the least"));
     report.case(long_sets >= 5, || format!("only {long_sets} sets of over 7 patterns with rows"));
-    std::process::exit(report.finish());
+    test_texts(&mut report, &mut random);
+    report.finish()
+}
+
+fn main() {
+    // typed.rs calls itself once for each level of a text.
+    let run = std::thread::Builder::new().stack_size(OWN_STACK).spawn(run);
+    std::process::exit(run.expect("a thread").join().unwrap_or(101));
 }
