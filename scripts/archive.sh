@@ -95,6 +95,17 @@ compile_compare() {
     compile_c "$1" display/{compare,files,refusal,row,tree}.c
 }
 
+# compile_typed OUTPUT: the program by which tools/typed calls the reader of typed queries.
+compile_typed() {
+    compile_c "$1" -Idisplay tools/typed.c display/{files,tree}.c
+}
+
+# build_program PROGRAM OUTPUT: builds the archive and, by compile_PROGRAM, a program with it. The program gets its name when it is
+# complete, since another run may use the one that is there.
+build_program() {
+    build_archive && "compile_$1" "$2.$$" && mv -f "$2.$$" "$2"
+}
+
 # run_program SOURCE [COMMAND...]: compiles a Rust test program, with `objects`, and with the archive if `archive` is set, runs it (by
 # a command, if there is one) and adds the counts of its last line. Products stand in target/tests.
 run_program() {

@@ -1,8 +1,12 @@
-"""What both notations share: lines of a text, faults with their places, and numbers."""
+"""What the notations share: lines of a text, faults with their places, and numbers."""
+import itertools
 import re
-from typing import NamedTuple
+from typing import NamedTuple, Optional
 
 from values import TRUSTS
+
+# How many characters of a long line are shown on each side of a mark, and how far in.
+ASIDE, INDENT = 50, 4
 
 
 class Place(NamedTuple):
@@ -11,10 +15,11 @@ class Place(NamedTuple):
 
 
 class Fault(NamedTuple):
-    """What is wrong, and the place where: lines and columns count from 1."""
+    """What is wrong, and the place where, if it has one: lines and columns count from 1. The excerpt is shown below the message."""
 
-    place: Place
+    place: Optional[Place]
     message: str
+    excerpt: tuple = ()
 
 
 class Faulty(Exception):
@@ -25,14 +30,38 @@ class Faulty(Exception):
         self.faults = faults
 
 
-def fault(place, message):
-    return Faulty(Fault(place, message))
+def fault(place, message, excerpt=()):
+    return Faulty(Fault(place, message, excerpt))
 
 
 def lines_of(data):
     """The lines of a text with their numbers: UTF-8, with or without a byte order mark, lines ended by LF or CRLF."""
     text = data.decode("utf-8-sig", "surrogateescape")
     return [(number, line.removesuffix("\r")) for number, line in enumerate(text.split("\n"), 1)]
+
+
+def place_of(data, at):
+    """The place of a byte of a text, or of its end, and the line there. A byte that is not UTF-8 is a character of its own."""
+    start, end = data.rfind(b"\n", 0, at) + 1, data.find(b"\n", at)
+    line = data[start : end if end >= 0 else None].decode("utf-8", "surrogateescape")
+    ends = itertools.accumulate(len(character.encode("utf-8", "surrogateescape")) for character in line)
+    return Place(data.count(b"\n", 0, at) + 1, 1 + sum(end <= at - start for end in ends)), line
+
+
+def visible(character):
+    """A character in plain ASCII: itself or an escape."""
+    if " " <= character <= "~":
+        return character
+    return f"\\x{ord(character) - 0xDC00:02x}" if "\udc80" <= character <= "\udcff" else ascii(character)[1:-1]
+
+
+def excerpt(line, column):
+    """A line, of a long one what stands near the column, and a mark below the column."""
+    at = column - 1
+    first, last = max(0, at - ASIDE), at + ASIDE
+    before, after = ("".join(map(visible, part)) for part in (line[first:at], line[at:last]))
+    before = " " * INDENT + "..." * (first > 0) + before
+    return before + after + "..." * (last < len(line)), " " * len(before) + "^"
 
 
 def shown(word):

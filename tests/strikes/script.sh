@@ -4,6 +4,8 @@ program=$(realpath "$strikes")
 script=$PWD/strikes
 runs="strikes: takes the program $program (RANDWYLER_STRIKES)
 strikes: running on facts.bin and query.bin of $PWD"
+in_examples="$runs/examples
+strikes: query.bin is there: query.txt is not read"
 usage='usage: strikes [FOLDER]'
 
 # expect STATUS OUTPUT MESSAGES COMMAND...: the command ends with this status and prints this, and a line feed where it is not empty,
@@ -55,13 +57,13 @@ q="$E 10 $A $B"
 folder sound "$w" "$q"
 folder 'a folder' "$w" "$q"
 folder none '' 00
-expect 0 "$rows" "$runs/examples" ./strikes
+expect 0 "$rows" "$in_examples" ./strikes
 expect 0 "$rows" "$runs/$files/sound" ./strikes "$files/sound"
 expect 0 "$rows" "$runs/$files/a folder" ./strikes "$files/a folder/"
 expect 0 "$rows" "$runs/$files/a folder" env -C "$files/a folder" "$script" .
 mkdir -p "$files/other/sound"
 expect 0 "$rows" "$runs/$files/sound" env -C "$files" CDPATH="$PWD/$files/other" "$script" sound
-expect 0 "$rows" "$runs/examples" env -C "$files" "$script"
+expect 0 "$rows" "$in_examples" env -C "$files" "$script"
 expect 0 'rows 1 peak 1 pairs 0
 1000' "$runs/$files/none" ./strikes "$files/none"
 
@@ -132,7 +134,7 @@ expect 2 '' "strikes: there is no folder ''" ./strikes ''
 mkdir "$files/commands"
 for command in bash cat dirname realpath; do ln -s "$(command -v "$command")" "$files/commands"; done
 path=PATH=$PWD/$files/commands
-expect 0 "$rows" "$runs/examples" env "$path" ./strikes
+expect 0 "$rows" "$in_examples" env "$path" ./strikes
 other= expect 2 '' "strikes: building target/bin/strikes
 strikes: the Rattle kit's command rt is not in PATH: see README.md, \"Run it\", and docs/DECISIONS.md, \"Toolchain\"
 strikes: there is no program to run" env "$path" ./strikes
@@ -146,17 +148,17 @@ stand_in() {
     chmod +x "$files/program"
     other=$files/program
     runs="strikes: takes the program $other (RANDWYLER_STRIKES)
-strikes: running on facts.bin and query.bin of $PWD/examples"
+strikes: running on facts.bin and query.bin of $PWD/$files/sound"
 }
 stand_in 'echo refused 10 at 3'
 expect 1 'refused 10 at 3' "$runs
-strikes: refused: this number is not known" ./strikes
+strikes: refused: this number is not known" ./strikes "$files/sound"
 stand_in 'echo rows; echo refused 1 at 0'
 expect 0 'rows
-refused 1 at 0' "$runs" ./strikes
+refused 1 at 0' "$runs" ./strikes "$files/sound"
 stand_in 'echo " refused 1 at 0 "'
-expect 0 ' refused 1 at 0 ' "$runs" ./strikes
+expect 0 ' refused 1 at 0 ' "$runs" ./strikes "$files/sound"
 stand_in 'exit 7'
-expect 7 '' "$runs" ./strikes
+expect 7 '' "$runs" ./strikes "$files/sound"
 stand_in 'printf "rows\n\n\n"'
-expect 0 $'rows\n\n' "$runs" ./strikes
+expect 0 $'rows\n\n' "$runs" ./strikes "$files/sound"

@@ -1,10 +1,11 @@
-"""campaign.py DISPLAY COMPARE STRIKES: the campaign's facts and rows are those of its scripts; for each question `strikes` prints the
-rows, from files that the tools make, and the comparison finds them equal; its README quotes them. The last line is 'N passed, M
-failed'."""
+"""campaign.py DISPLAY COMPARE STRIKES: the campaign's facts and rows are those of its scripts; for each question, as a tree and typed,
+`strikes` prints the rows, from files that the tools make, and the comparison finds them equal; its README quotes them. The last line is
+'N passed, M failed'."""
 import csv
 import os
 import pathlib
 import re
+import shutil
 import sys
 import tempfile
 
@@ -13,6 +14,8 @@ from report import TOP, Report, run
 CAMPAIGN = TOP / "examples" / "campaign"
 QUESTIONS = ["1-graded", "2-unsampled", "3-differing", "4-by-pan", "5-late", "5-late-naive"]
 MOST_FACTS, MOST_ROWS = 65_529, 963
+# Typed, 1 is one pattern set: of 223 samples 177 are graded, and all stand there before the floor; there is no join.
+OTHER_COUNTS = {"1-graded": "rows 48 peak 177 pairs 0"}
 
 
 def rows_file(name):
@@ -26,8 +29,8 @@ def made_again(report, folder):
     report.equal("answers", (status, messages), (0, ""))
     for name in QUESTIONS:
         report.equal(f"{name}.rows", (folder / f"{name}.rows").read_text(), rows_file(name))
-    there = sorted(path.stem for path in CAMPAIGN.glob("*.query"))
-    report.equal("the questions", (there, sorted(path.stem for path in CAMPAIGN.glob("*.rows"))), (QUESTIONS, QUESTIONS))
+    for ending in "txt", "query", "rows":
+        report.equal(f"the questions, .{ending}", sorted(path.stem for path in CAMPAIGN.glob(f"*.{ending}")), QUESTIONS)
 
 
 def make_query(report, folder, text):
@@ -35,6 +38,16 @@ def make_query(report, folder, text):
     source = text if isinstance(text, pathlib.Path) else "-"
     data = None if source == text else text.encode()
     report.equal(f"tools/query {source}", run(TOP / "tools" / "query", source, folder / "query.bin", input=data)[0::2], (0, ""))
+
+
+def typed(report, folder, name, strikes):
+    """A question as a text: the bytes are those of the tree, which stand in query.bin, or others with the same rows."""
+    tree = (folder / "query.bin").read_bytes()
+    status, _, messages = run(TOP / "tools" / "typed", CAMPAIGN / f"{name}.txt", folder / "query.bin")
+    report.equal(f"tools/typed {name}.txt", (status, len(messages.splitlines())), (0, 1))
+    report.equal(f"{name} makes the same bytes", (folder / "query.bin").read_bytes() == tree, name not in OTHER_COUNTS)
+    counts, rows = rows_file(name).split("\n", 1)
+    report.equal(f"strikes on {name}, typed", run(strikes, cwd=folder), (0, f"{OTHER_COUNTS.get(name, counts)}\n{rows}", ""))
 
 
 def answered(report, folder, display, compare, strikes):
@@ -47,6 +60,8 @@ def answered(report, folder, display, compare, strikes):
         report.equal(f"check of {name}", (status, shown.startswith("sound: ")), (0, True))
         expected = rows_file(name)
         report.equal(f"strikes on {name}", run(strikes, cwd=folder), (0, expected, ""))
+        typed(report, folder, name, strikes)
+        make_query(report, folder, CAMPAIGN / f"{name}.query")
         report.equal(f"{name} has rows", 2 <= len(expected.splitlines()) <= 1 + MOST_ROWS, True)
         counts, *rows = expected.splitlines()
         status, shown_both, _ = run(compare, table, folder / "query.bin")
@@ -76,26 +91,36 @@ def naive_push(report):
     report.equal("rows that it adds", (len(surplus), surplus[0]), (12, "660 ?0=1002 ?1=3010"))
 
 
+def blocks(language, text):
+    """The blocks of a text that are marked with a language, or with none."""
+    return [block for found, block in re.findall(r"(?ms)^```(\w*)\n(.*?)^```$", text) if found == language]
+
+
 def quoted(report, strikes):
     """The README's commands, run as they stand there, its rows and their numbers."""
     text = (CAMPAIGN / "README.md").read_text()
     commands = re.findall("(?m)^    (.*)$", text)
     report.equal("the README's last command", commands[-1], "./strikes target/campaign")
+    shutil.rmtree(TOP / "target" / "campaign", ignore_errors=True)
     environment = {**os.environ, "RANDWYLER_STRIKES": str(strikes)}
     status, said, messages = run("bash", "-euc", "\n".join(commands), cwd=TOP, env=environment)
     report.equal("the README's commands", status, 0)
-    report.equal("what strikes says", messages.splitlines()[-1], f"strikes: running on facts.bin and query.bin of {TOP}/target/campaign")
+    running = f"strikes: running on facts.bin and query.txt of {TOP}/target/campaign"
+    report.equal("what strikes says", running in messages.splitlines(), True)
     report.equal("what they print", said.endswith(" bytes\n" + rows_file("2-unsampled")), True)
+    report.equal("the counts of 1, typed", f"typed they are `{OTHER_COUNTS['1-graded']}`" in text, True)
     sections = re.split(r"(?m)^### \d\. .*\(`(.*)`\)$", text)[1:]
     names, bodies = sections[0::2], sections[1::2]
     report.equal("sections of the README", names, [name for name in QUESTIONS if name != "5-late-naive"])
     for name, body in zip(names, bodies):
         rows = rows_file(name).splitlines()[1:]
         report.equal(f"how many rows the README has of {name}", int(re.search(r"(\d+) rows", body)[1]), len(rows))
-        block = re.findall(r"(?s)```\n(.*?)```", body)[0].splitlines()
+        report.equal(f"the text of {name} in the README", blocks("text", body)[0], (CAMPAIGN / f"{name}.txt").read_text())
+        block = blocks("", body)[0].splitlines()
         report.equal(f"what the README quotes of {name}", block, rows[: len(block)])
-    report.equal("all rows of 2-unsampled", len(re.findall(r"(?s)```\n(.*?)```", bodies[1])[0].splitlines()), 8)
-    report.equal("the surplus row", re.findall(r"(?s)```\n(.*?)```", bodies[4])[1], "660 ?0=1002 ?1=3010\n")
+    report.equal("all rows of 2-unsampled", len(blocks("", bodies[1])[0].splitlines()), 8)
+    report.equal("the naive text", blocks("text", bodies[4])[1:], [(CAMPAIGN / "5-late-naive.txt").read_text()])
+    report.equal("the surplus row", blocks("", bodies[4])[1:], ["660 ?0=1002 ?1=3010\n"])
 
 
 def main():

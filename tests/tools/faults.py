@@ -1,10 +1,9 @@
 """Inputs with faults: what the tools say, with line and column, and that they write nothing. The last line is 'N passed, M failed'."""
 import os
-import pathlib
 import stat
 import tempfile
 
-from report import TOP, Report, run
+from report import OLD, TOP, Folder, Report, run
 
 HEADER = "subject,predicate,object,trust\n"
 SIXTEEN = "".join(f"  ?0 1 {n}\n" for n in range(1, 17))
@@ -146,23 +145,6 @@ QUERIES = [  # text, message without the file's name
         "2:3: the query is 5121 bytes long: with this node it is over 5120",
     ),
 ]
-
-OLD = b"an older output\n"
-
-
-class Folder:
-    """A folder with an input and an older output, in which a tool is run."""
-
-    def __init__(self, name):
-        self.path = pathlib.Path(name)
-        (self.path / "out").write_bytes(OLD)
-
-    def run(self, tool, data, *arguments):
-        """The status, the messages, whether the output is as it was, and what files are there."""
-        (self.path / "in").write_bytes(data)
-        status, said, messages = run(TOP / "tools" / tool, *arguments, cwd=self.path)
-        return status, said, messages, (self.path / "out").read_bytes() == OLD, sorted(os.listdir(self.path))
-
 
 def faults(report, folder):
     for tool, cases in ("facts", CSV), ("query", [(text, [message]) for text, message in QUERIES]):

@@ -1,4 +1,5 @@
-"""Counts cases, shows those that fail, and runs programs."""
+"""Counts cases, shows those that fail, and runs programs, tools in a folder of their own."""
+import os
 import pathlib
 import subprocess
 import sys
@@ -8,6 +9,8 @@ sys.path.insert(0, str(TOP / "tools"))
 
 # Failures that are shown; later ones are only counted.
 SHOWN = 20
+
+OLD = b"an older output\n"
 
 
 class Report:
@@ -33,3 +36,17 @@ def run(*command, **options):
     """The exit status, standard output and standard error of a program."""
     done = subprocess.run([str(word) for word in command], capture_output=True, check=False, **options)
     return done.returncode, done.stdout.decode(), done.stderr.decode()
+
+
+class Folder:
+    """A folder with an input and an older output, in which a tool is run."""
+
+    def __init__(self, name):
+        self.path = pathlib.Path(name)
+        (self.path / "out").write_bytes(OLD)
+
+    def run(self, tool, data, *arguments):
+        """The status, the messages, whether the output is as it was, and what files are there."""
+        (self.path / "in").write_bytes(data)
+        status, said, messages = run(TOP / "tools" / tool, *arguments, cwd=self.path)
+        return status, said, messages, (self.path / "out").read_bytes() == OLD, sorted(os.listdir(self.path))
