@@ -3,7 +3,8 @@
  *
  *     embed FACTS QUERY [mean]
  *
- * With `mean` the trust of a pattern set's row is the mean of its records' trusts, without it the least.
+ * A query whose name ends in .txt is typed. With `mean` the trust of a pattern set's row is the mean of its records' trusts, without it
+ * the least.
  *
  * Exit status: 0 the rows were listed; 1 an input was refused; 2 a file cannot be read, or there is no memory.
  */
@@ -39,6 +40,8 @@ static int print_refusal(uint32_t number, uint64_t place)
         [RANDWYLER_NO_ROOM] = "the query needs more rows than any row space has: narrow it",
         [RANDWYLER_OUTPUT_TOO_SHORT] = "the output is too short: lend so many bytes",
         [RANDWYLER_BAD_TOTALS] = "the output is too short: lend so many words",
+        [RANDWYLER_BAD_TEXT] = "the typed query goes wrong at this byte, or is too long: correct it",
+        [RANDWYLER_NO_ROOM_FOR_QUERY] = "the output is too short: lend so many bytes",
     };
     const char *what = number < sizeof advice / sizeof *advice ? advice[number] : "unknown number";
     if (number == RANDWYLER_BAD_TOTALS && place == 0) what = "the variable is above 15: choose another one";
@@ -176,8 +179,24 @@ static int read_file(const char *path, uint8_t *buffer, size_t room, struct slic
     return FAILED;
 }
 
+/* Reads a typed query: writes its bytes to an output. */
+static int read_typed(struct slice text, uint8_t *output, size_t length, struct slice *query)
+{
+    struct randwyler_rewritten read = randwyler_read_text(text.bytes, text.length, output, length);
+    if (read.number != RANDWYLER_ANSWERED) return print_refusal(read.number, read.place);
+    *query = (struct slice){output, (size_t)read.length};
+    return LISTED;
+}
+
+static bool is_typed(const char *path)
+{
+    const char *dot = strrchr(path, '.');
+    return dot != NULL && strcmp(dot, ".txt") == 0;
+}
+
 int main(int argc, char **argv)
 {
+    static uint8_t typed[RANDWYLER_MOST_TEXT_QUERY_BYTES];
     static uint8_t facts[(RANDWYLER_MOST_RECORDS + 1) * RANDWYLER_RECORD_BYTES], bytes[RANDWYLER_MOST_QUERY_BYTES + 1];
     struct slice table, query;
     bool mean = argc == 4 && strcmp(argv[3], "mean") == 0;
@@ -187,5 +206,6 @@ int main(int argc, char **argv)
     }
     if (read_file(argv[1], facts, sizeof facts, &table) != 0) return FAILED;
     if (read_file(argv[2], bytes, sizeof bytes, &query) != 0) return FAILED;
+    if (is_typed(argv[2]) && read_typed(query, typed, sizeof typed, &query) != LISTED) return REFUSED;
     return run(table, query, mean);
 }

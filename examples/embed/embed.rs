@@ -3,7 +3,8 @@
 //!
 //!     embed FACTS QUERY [mean]
 //!
-//! With `mean` the trust of a pattern set's row is the mean of its records' trusts, without it the least.
+//! A query whose name ends in .txt is typed. With `mean` the trust of a pattern set's row is the mean of its records' trusts, without it
+//! the least.
 //!
 //! Exit status: 0 the rows were listed; 1 an input was refused; 2 a file cannot be read.
 
@@ -11,7 +12,7 @@
 mod randwyler;
 
 use randwyler::{Evaluated, Tally, ANSWERED, NO_ROOM, STACK_EVALUATE_KIB};
-use randwyler::{FIRST_TRUST_CELL, GROUP_WORDS, MOST_RESULT_BYTES, MOST_ROWS, MOST_TOTALS_WORDS};
+use randwyler::{FIRST_TRUST_CELL, GROUP_WORDS, MOST_RESULT_BYTES, MOST_ROWS, MOST_TEXT_QUERY_BYTES, MOST_TOTALS_WORDS};
 use randwyler::{ROW_WORDS, TRUST_ZERO, UNKNOWN_TRUST, VARIABLES};
 use std::process::ExitCode;
 use std::{env, fs, thread};
@@ -37,6 +38,8 @@ fn refusal(number: u32, place: u64) -> String {
         randwyler::OUTPUT_TOO_SHORT => "the output is too short: lend so many bytes",
         randwyler::BAD_TOTALS if place == 0 => "the variable is above 15: choose another one",
         randwyler::BAD_TOTALS => "the output is too short: lend so many words",
+        randwyler::BAD_TEXT => "the typed query goes wrong at this byte, or is too long: correct it",
+        randwyler::NO_ROOM_FOR_QUERY => "the output is too short: lend so many bytes",
         _ => "unknown number",
     };
     format!("refused {number} at {place}: {advice}")
@@ -161,6 +164,17 @@ fn run(table: &[u8], query: &[u8], mean: bool) -> u8 {
     status
 }
 
+/// The bytes of a typed query, or its refusal.
+fn read_typed(text: &[u8]) -> Result<Vec<u8>, String> {
+    let mut output = vec![0; MOST_TEXT_QUERY_BYTES];
+    let read = randwyler::read_text(text, &mut output);
+    if read.number != ANSWERED {
+        return Err(refusal(read.number, read.place));
+    }
+    output.truncate(read.length as usize);
+    Ok(output)
+}
+
 fn main() -> ExitCode {
     let arguments: Vec<String> = env::args().skip(1).collect();
     let (facts, query, mean) = match &arguments[..] {
@@ -172,8 +186,15 @@ fn main() -> ExitCode {
         }
     };
     let read = |path: &String| fs::read(path).map_err(|_| eprintln!("embed: cannot read {path}"));
-    match (read(facts), read(query)) {
-        (Ok(facts), Ok(query)) => run(&facts, &query, mean).into(),
-        _ => FAILED.into(),
+    let (Ok(table), Ok(bytes)) = (read(facts), read(query)) else {
+        return FAILED.into();
+    };
+    let bytes = if query.ends_with(".txt") { read_typed(&bytes) } else { Ok(bytes) };
+    match bytes {
+        Ok(bytes) => run(&table, &bytes, mean).into(),
+        Err(refusal) => {
+            println!("{refusal}");
+            REFUSED.into()
+        }
     }
 }
