@@ -26,6 +26,11 @@ compile_ceiling() {
     compile_c target/bench/ceiling bench/{clock,record}.c bench/evaluate/store.c bench/ceiling/ceiling.c -lm
 }
 
+# compile_text: the program that times the reading of typed queries.
+compile_text() {
+    compile_c target/bench/text bench/clock.c bench/text/text.c -lm
+}
+
 # compile_call CALL: the program that compares and times a call that has a folder of its own.
 compile_call() {
     compile_c "target/bench/$1" bench/{clock,record}.c bench/"$1"/*.c
