@@ -1,8 +1,7 @@
 -- The automaton's step at the first byte of a token, by the byte and the symbol on top: a variable (`var-..`), a minus sign (`minus-..`),
 -- a digit (`digit-..`), a fixed token (`mark-..`). Assumes nothing.
 use mathlib.Core.Path.{_≡_, refl, sym, _∙_}
-use mathlib.Core.Bool.{Bool, true, false, cond, _&&_}
-use mathlib.Core.Bool as B
+use mathlib.Core.Bool.{Bool, true, false, cond, _&&_, not}
 use mathlib.Core.List.{List, [], _∷_, _++_}
 use mathlib.Core.Option.{none, some}
 use Prim.Native.Nat.{ℕ, _-_, _≤_}
@@ -10,10 +9,16 @@ use native.Mathlib.Omega.{arith}
 use lib.Dec.{eqb, leb}
 use lib.ListN.{getD}
 use borrow.Author.Tests.{eqb-true, eqb-false, le-leb, lt-leb, ne-eqb}
-use Rattle.grammar.specs.Tokens.{isCapital}
-use Rattle.grammar.specs.Automaton.{Symbol, Entry, marks, vars, terms, isBound, find}
+use Rattle.grammar.specs.Tokens.{isSpace, isCapital}
+use Rattle.grammar.specs.Automaton.{Symbol, Entry, marks, vars, terms, isBound, digit, find}
 use Rattle.grammar.specs.Automaton.{kVar, kNum, kNeg, gap, first, inNumber, stop, go, step, onto, onTerm}
-use Rattle.lexer.specs.Begins.{Other}
+
+-- no variable, number or white space begins with the byte
+pub record Other (byte : ℕ) : Type 0 where
+  pub noSpace : isSpace byte ≡ false
+  pub noQuestionMark : eqb byte 63 ≡ false
+  pub noMinus : eqb byte 45 ≡ false
+  pub noDigit : digit byte ≡ false
 
 module _ (a : Bool) (X : Symbol) (σ : List Symbol) (b : ℕ) where
   pub var-none : b ≡ 63 → vars X ≡ none → step (gap a (X ∷ σ)) b ≡ stop
@@ -24,17 +29,13 @@ module _ (a : Bool) (X : Symbol) (σ : List Symbol) (b : ℕ) where
   unfolding onto
   var-some α q e = rw (q, e)
 
-  pub minus-tight : b ≡ 45 → a ≡ true → step (gap a (X ∷ σ)) b ≡ stop
+  pub minus-stop : b ≡ 45 → (isBound X && not a) ≡ false → step (gap a (X ∷ σ)) b ≡ stop
   unfolding onto
-  minus-tight q h = rw (q, h, B.and-false (isBound X))
+  minus-stop q e = rw (q, e)
 
-  pub minus-other : b ≡ 45 → isBound X ≡ false → step (gap a (X ∷ σ)) b ≡ stop
+  pub minus-bound : b ≡ 45 → (isBound X && not a) ≡ true → step (gap a (X ∷ σ)) b ≡ go [] (first 1 1000 kNeg σ)
   unfolding onto
-  minus-other q e = rw (q, e)
-
-  pub minus-bound : b ≡ 45 → isBound X ≡ true → a ≡ false → step (gap a (X ∷ σ)) b ≡ go [] (first 1 1000 kNeg σ)
-  unfolding onto
-  minus-bound q e h = rw (q, e, h)
+  minus-bound q e = rw (q, e)
 
   module _ (l : 48 ≤ b) (m : b ≤ 57) where
     digit-onto :
@@ -43,9 +44,9 @@ module _ (a : Bool) (X : Symbol) (σ : List Symbol) (b : ℕ) where
     digit-onto =
         let noSpace : eqb b 32 ≡ false = ne-eqb b 32 (λ e. omega arith) in
         let noLine : eqb b 10 ≡ false = ne-eqb b 10 (λ e. omega arith) in
-        let noQuery : eqb b 63 ≡ false = ne-eqb b 63 (λ e. omega arith) in
+        let noQuestionMark : eqb b 63 ≡ false = ne-eqb b 63 (λ e. omega arith) in
         let noMinus : eqb b 45 ≡ false = ne-eqb b 45 (λ e. omega arith) in
-        rw (noSpace, noLine, noQuery, noMinus, le-leb 48 b l, le-leb b 57 m)
+        rw (noSpace, noLine, noQuestionMark, noMinus, le-leb 48 b l, le-leb b 57 m)
 
     pub digit-tight : a ≡ true → step (gap a (X ∷ σ)) b ≡ stop
     digit-tight h = digit-onto ∙ rw h
@@ -69,9 +70,9 @@ module _ (a : Bool) (X : Symbol) (σ : List Symbol) (b : ℕ) where
 
   pub mark-none : Other b → find b (marks X) ≡ none → step (gap a (X ∷ σ)) b ≡ stop
   unfolding onto
-  mark-none o e = rw (o .noSpace, o .noQuery, o .noMinus, o .noDigit, e)
+  mark-none o e = rw (o .noSpace, o .noQuestionMark, o .noMinus, o .noDigit, e)
 
   pub mark-tight : Other b → (e : Entry) → find b (marks X) ≡ some e → (a && isCapital (getD (e .0) 0 0)) ≡ true
       → step (gap a (X ∷ σ)) b ≡ stop
   unfolding onto
-  mark-tight o e f c = rw (o .noSpace, o .noQuery, o .noMinus, o .noDigit, f, c)
+  mark-tight o e f c = rw (o .noSpace, o .noQuestionMark, o .noMinus, o .noDigit, f, c)

@@ -1,8 +1,9 @@
--- Fixed tokens: how much of one stands at a place (`spelled-..`), and what the automaton makes of it where the symbol on top allows one
--- with that first byte (`fixed-..`). Assumes nothing.
-use mathlib.Core.Path.{_≡_, refl, sym, ap, _∙_}
-use mathlib.Core.Bool.{Bool, true, false, _&&_}
-use mathlib.Core.List.{List, _∷_}
+-- Fixed tokens: how much of one stands at a place (`word-says`), and what the automaton makes of it where the symbol on top allows one with
+-- that first byte (`fixed-says`). Assumes nothing.
+use mathlib.Core.Path.{_≡_, refl, sym, ap, _∙_, subst⁻¹}
+use mathlib.Core.Bool.{Bool, true, false, true≢false, _&&_}
+use mathlib.Core.List.{List, _∷_, List·Memᴰ}
+use mathlib.Core.Option.{Option}
 use Prim.Native.Nat.{ℕ, suc, _+_, _-_, _≤_, _<_}
 use native.Mathlib.Omega.{arith}
 use native.Mathlib.Numerals.{add-one}
@@ -10,8 +11,9 @@ use lib.Dec.{eqb}
 use lib.ListN.{length, take, drop, getD, length-drop}
 use lib.Seq.{drop-cons, take-all}
 use borrow.Author.Tests.{eq-eqb, ne-eqb}
-use Rattle.grammar.specs.Tokens.{mark, isSpace, isCapital}
-use Rattle.grammar.specs.Automaton.{Symbol, marks, find, digit, gap, fault, run}
+use Rattle.grammar.specs.Tokens.{mark, isCapital}
+use Rattle.grammar.specs.Automaton.{Symbol, Entry, marks, find, digit, gap, fault, run}
+use Rattle.grammar.proofs.Basics.{cond-cases}
 use Rattle.grammar.proofs.TableFacts.{fact-of}
 use Rattle.scanner.specs.Scans.{common}
 use Rattle.scanner.specs.Fixed.{fixedToken, compared}
@@ -20,20 +22,37 @@ use Rattle.scanner.specs.declared.Literal.the-variants as L
 use Rattle.scanner.proofs.RunLaws.{stop-at}
 use Rattle.scanner.proofs.CompareLaws.{common-within, Says, compared-says}
 use Rattle.scanner.proofs.FixedLaws.{literal-whole, literal-part}
-use Rattle.lexer.specs.Symbols.{code}
-use Rattle.lexer.specs.Steps.{Took, Advances}
-use Rattle.lexer.specs.Rules.{productionOf, allows, followOf, Allowed}
-use Rattle.lexer.specs.Begins.{Other, Spelled, Misspelled, Spelling}
+use Rattle.lexer.specs.Symbols.{packed}
+use Rattle.lexer.specs.Rules.{productionOf, allows, followOf}
+use Rattle.lexer.specs.NextToken.{wordToken, wordAt, whenAllowed, wordApart, fixedAt}
 use Rattle.lexer.specs.declared.Step.{Step}
 use Rattle.lexer.specs.declared.Step.the-variants as S
 use Rattle.lexer.specs.declared.Lexeme.{Lexeme}
-use Rattle.lexer.specs.declared.Follow.{Follow}
-use Rattle.lexer.specs.declared.Follow.the-variants as F
+use Rattle.lexer.proofs.Advances.{Took, Advanced}
 use Rattle.lexer.proofs.SymbolLaws.{entry-word, entry-few}
-use Rattle.lexer.proofs.EntryLaws.{follow-with, follow-nothing, Found, found-entry, found-none}
-use Rattle.lexer.proofs.FirstByte.{mark-none, mark-tight}
+use Rattle.lexer.proofs.EntryLaws.{find-cases}
+use Rattle.lexer.proofs.FirstByte.{Other, mark-none, mark-tight}
 
 -- ---- how much of one stands at a place
+
+-- l is the fixed token with the first byte at `at`, which stands there whole
+record Spelled (s : List ℕ) (at production : ℕ) (l : Lexeme) : Type 0 where
+  pub whole : common (fixedToken (getD s at 0)) (drop at s) ≡ length (fixedToken (getD s at 0))
+  pub next : l .next ≡ at + length (fixedToken (getD s at 0))
+  pub inside : l .next ≤ length s
+  pub word : l .word ≡ getD s at 0
+  pub ends : l .tight ≡ isCapital (getD s at 0)
+  pub pushes : l .production ≡ production
+
+-- only a part of it stands there, up to `reached`
+record Misspelled (s : List ℕ) (at reached : ℕ) : Type 0 where
+  pub part : common (fixedToken (getD s at 0)) (drop at s) < length (fixedToken (getD s at 0))
+  pub place : reached ≡ at + common (fixedToken (getD s at 0)) (drop at s)
+
+-- by the answer
+abbrev Spelling : List ℕ → ℕ → ℕ → Step → Type 0
+Spelling s at production (S.Token l) = Spelled s at production l
+Spelling s at production (S.Fault place) = Misspelled s at place
 
 -- the part of a text from a place on
 part-drop : (s : List ℕ) (at : ℕ) → take (length s - at) (drop at s) ≡ drop at s
@@ -57,53 +76,47 @@ module _ (s : List ℕ) (at : ℕ) (k : Literal) (h : at < length s)
   pub part-inside : (n : ℕ) → k ≡ L.Part n → at + n ≤ length s
   part-inside n q = inside n (says (L.Part n) q .0)
 
-  pub spelled-whole : (n p : ℕ) (t : Bool) → k ≡ L.Whole n → t ≡ isCapital (getD s at 0)
-      → Spelled s at p (record { word = getD s at 0; next = at + n; tight = t; production = p })
-  spelled-whole n p t q c =
-      let r = says (L.Whole n) q in
-      record {
-        whole = r .1;
-        next = omega (arith, r .0, r .1);
-        inside = whole-inside n q;
-        word = refl;
-        ends = c;
-        pushes = refl;
-      }
+  -- the same of the whole text
+  pub word-token : (p : ℕ) (answer : Literal) → k ≡ answer → wordToken (getD s at 0) p at answer ≡ wordAt p s at
+  word-token p answer q = ap (wordToken (getD s at 0) p at) (sym q ∙ rw part-drop at e)
 
-  pub spelled-part : (n : ℕ) → k ≡ L.Part n → Misspelled s at (at + n)
-  spelled-part n q = let r = says (L.Part n) q in record { part = r .1; place = omega (arith, r .0) }
+word-says : (s : List ℕ) (at p : ℕ) → at < length s → Spelling s at p (wordAt p s at)
+word-says s at p h = go (compared token (drop at s)) (compared-says token (drop at s) _ _ refl refl)
+  where
+    token : List ℕ
+    token = fixedToken (getD s at 0)
 
--- ---- a byte with which no variable, number or white space begins
-
-pub other : (b : ℕ) → isSpace b ≡ false → (b ≡ 63 → ⊥) → (b ≡ 45 → ⊥) → digit b ≡ false → Other b
-other b p q m d = record { noSpace = p; noQuery = ne-eqb b 63 q; noMinus = ne-eqb b 45 m; noDigit = d }
-
-not-zero : (b : ℕ) → digit b ≡ false → eqb b 48 ≡ false
-not-zero b d = ne-eqb b 48 (λ e. let z : false ≡ true = sym d ∙ rw e in let y : _≡_ {A = ℕ} 0 1 = cc in absurd (omega arith))
-
--- what a symbol allows there is what its fixed tokens say
-allows-mark : (X : Symbol) (b : ℕ) → Other b → allows X b ≡ productionOf (find b (marks X))
-allows-mark X b o = rw (o .noQuery, not-zero b (o .noDigit))
+    go : (k : Literal) → Says (fixedToken (getD s at 0)) (drop at s) k → Spelling s at p (wordToken (getD s at 0) p at k)
+    go (L.Whole n) r =
+        record {
+          whole = r .1;
+          next = omega (arith, r .0, r .1);
+          inside = omega (arith, r .0, common-within (fixedToken (getD s at 0)) (drop at s) .1, length-drop at s);
+          word = refl;
+          ends = refl;
+          pushes = refl;
+        }
+    go (L.Part n) r = record { part = r .1; place = omega (arith, r .0) }
 
 -- ---- a fixed token by the entry of a symbol's table
 
-module _ (s : List ℕ) (at : ℕ) (a : Bool) (X : Symbol) (p : ℕ) (h : at < length s) (g : Found (marks X) (getD s at 0) p)
-    (c : (a && isCapital (getD s at 0)) ≡ false) where
+module _ (s : List ℕ) (at : ℕ) (a : Bool) (X : Symbol) (h : at < length s) (entry : Entry) (among : List·Memᴰ entry (marks X))
+    (first : getD s at 0 ≡ getD (entry .0) 0 0) (c : (a && isCapital (getD s at 0)) ≡ false) where
   -- its bytes, and those behind the first one
   abbrev word : List ℕ
-  word = g .entry .0
+  word = entry .0
 
   abbrev later : List ℕ
   later = drop 1 word
 
   loose : (a && isCapital (getD word 0 0)) ≡ false
-  loose = rw (g .first) at c
+  loose = rw first at c
 
   begins : word ≡ getD s at 0 ∷ later
-  begins = rw (g .first) (fact-of X (g .among) .begins)
+  begins = rw first (fact-of X among .begins)
 
   token : fixedToken (getD s at 0) ≡ word
-  token = rw (g .first) (sym (entry-word X (g .among)))
+  token = rw first (sym (entry-word X among))
 
   size : length word ≡ suc (length later)
   size = ap length begins
@@ -113,51 +126,58 @@ module _ (s : List ℕ) (at : ℕ) (a : Bool) (X : Symbol) (p : ℕ) (h : at < l
       ap (λ (l : List ℕ). common l (drop at s)) begins ∙ ap (common (getD s at 0 ∷ later)) (drop-cons s at 0 h)
       ∙ rw (eq-eqb (getD s at 0) (getD s at 0) refl) (ap (λ (n : ℕ). suc (common later (drop n s))) (sym (add-one at)))
 
-  took-fixed : (x : Lexeme) → Spelled s at p x → Took s at a X x
+  took-fixed : (x : Lexeme) → Spelled s at (packed (entry .1)) x → Took s at a X x
   took-fixed x t =
       let whole : common word (drop at s) ≡ length word = rw token at (t .whole) in
       let next : x .next ≡ at + suc (length later) = omega (arith, t .next, ap length token, size) in
       let all : common later (drop (at + 1) s) ≡ length later = omega (arith, shares, whole, size) in
       record {
         token = mark word;
-        production = g .entry .1;
-        word = t .word ∙ g .first;
-        pushes = t .pushes ∙ g .number;
-        ends = t .ends ∙ ap isCapital (g .first);
+        production = entry .1;
+        word = t .word ∙ first;
+        pushes = t .pushes;
+        ends = t .ends ∙ ap isCapital first;
         forward = omega (arith, next);
         inside = t .inside;
-        few = omega (arith, next, size, entry-few X (g .among));
-        runs = λ σ. literal-whole X (g .entry) (g .among) a σ s at h (g .first) loose (x .next) next all;
+        few = omega (arith, next, size, entry-few X among);
+        runs = λ σ. literal-whole X entry among a σ s at h first loose (x .next) next all;
       }
 
   fault-fixed : (q : ℕ) → Misspelled s at q → (σ : List Symbol) → run (drop at s) at (gap a (X ∷ σ)) ≡ fault q
   fault-fixed q t σ =
       let part : common word (drop at s) < length word = rw token at (t .part) in
       let place : q ≡ at + common word (drop at s) = rw token at (t .place) in
-      literal-part X (g .entry) (g .among) a σ s at h (g .first) loose (omega (arith, shares, part, size))
+      literal-part X entry among a σ s at h first loose (omega (arith, shares, part, size))
       ∙ ap fault (omega (arith, place, shares))
 
--- ---- the returns of `fixed`
+  fixed-spelled : (r : Step) → Spelling s at (packed (entry .1)) r → Advanced s at a X r
+  fixed-spelled (S.Token x) t = took-fixed x t
+  fixed-spelled (S.Fault q) t = fault-fixed q t
 
-module _ (s : List ℕ) (at : ℕ) (a : Bool) (n : ℕ) (h : at < length s) (o : Other (getD s at 0)) (f : Follow)
-    (w : Allowed n (getD s at 0) f) where
-  pub fixed-fault : f ≡ F.Nothing → Advances s at a n (S.Fault at)
-  fixed-fault e X i σ =
-      let z = follow-nothing (allows X (getD s at 0)) f e (w X i) in
-      stop-at s at (gap a (X ∷ σ)) h
-      (mark-none a X σ (getD s at 0) o (found-none (marks X) (getD s at 0) (sym (allows-mark X (getD s at 0) o) ∙ z)))
+-- ---- by the table of the symbol
 
-  module _ (p : ℕ) (e : f ≡ F.With p) where
-    entry-of : (X : Symbol) → n ≡ code X → Found (marks X) (getD s at 0) p
-    entry-of X i =
-        found-entry (marks X) (getD s at 0) p
-        (follow-with (productionOf (find (getD s at 0) (marks X))) p f e (w X i ∙ ap followOf (allows-mark X (getD s at 0) o)))
+not-zero : (b : ℕ) → digit b ≡ false → eqb b 48 ≡ false
+not-zero b d = ne-eqb b 48 (λ e. true≢false (rw e at d))
 
-    pub fixed-tight : (a && isCapital (getD s at 0)) ≡ true → Advances s at a n (S.Fault at)
-    fixed-tight c X i σ =
-        let g = entry-of X i in
-        stop-at s at (gap a (X ∷ σ)) h (mark-tight a X σ (getD s at 0) o (g .entry) (g .is) (rw (g .first) at c))
+-- what a symbol allows there is what its fixed tokens say
+allows-mark : (X : Symbol) (b : ℕ) → Other b → allows X b ≡ productionOf (find b (marks X))
+allows-mark X b o = rw (o .noQuestionMark, not-zero b (o .noDigit))
 
-    pub fixed-token : (r : Step) → (a && isCapital (getD s at 0)) ≡ false → Spelling s at p r → Advances s at a n r
-    fixed-token (S.Token x) c t X i = took-fixed s at a X p h (entry-of X i) c x t
-    fixed-token (S.Fault q) c t X i = fault-fixed s at a X p h (entry-of X i) c q t
+module _ (s : List ℕ) (at : ℕ) (a : Bool) (X : Symbol) (h : at < length s) (o : Other (getD s at 0)) where
+  abbrev byte : ℕ
+  byte = getD s at 0
+
+  -- for a production, where there is one
+  abbrev Apart : Option (List Symbol) → Type 0
+  Apart o = Advanced s at a X (whenAllowed at (wordApart a s at) (followOf o))
+
+  listed : Apart (productionOf (find byte (marks X)))
+  listed =
+      find-cases byte (marks X) (λ e. find byte (marks X) ≡ e → Apart (productionOf e))
+      (λ e σ. stop-at s at (gap a (X ∷ σ)) h (mark-none a X σ byte o e))
+      (λ entry m f e. cond-cases (Advanced s at a X) (a && isCapital byte)
+      (λ c σ. stop-at s at (gap a (X ∷ σ)) h (mark-tight a X σ byte o entry e (rw f at c)))
+      (λ c. fixed-spelled s at a X h entry m f c (wordAt (packed (entry .1)) s at) (word-says s at (packed (entry .1)) h))) refl
+
+  pub fixed-says : Advanced s at a X (fixedAt X a s at)
+  fixed-says = subst⁻¹ Apart (allows-mark X byte o) listed

@@ -3,8 +3,10 @@ pub mod SymbolLaws
 pub mod RuleLaws
 pub mod EntryLaws
 pub mod StackLaws
+pub mod Advances
 pub mod FirstByte
 pub mod NumberLaws
 pub mod FixedLaws
-pub mod SpaceLaws
+pub mod NextLaws
+pub mod TokenLaws
 pub mod ScanLaws

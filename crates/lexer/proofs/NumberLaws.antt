@@ -1,31 +1,28 @@
--- Variables, terms and bounds: the automaton stands before a number, which is then a token (`took-number`). Each other law is a return of
--- the function that it is named after. Assumes nothing.
+-- Variables, terms and bounds: the automaton stands before a number, which is then a token (`took-number`), by the first byte (`..-says`).
+-- Assumes nothing.
 use mathlib.Core.Path.{_≡_, refl, sym, ap, _∙_, subst}
-use mathlib.Core.Bool.{Bool, true, false}
+use mathlib.Core.Bool.{Bool, true, false, _&&_, not}
 use mathlib.Core.List.{List, [], _∷_, _++_}
+use mathlib.Core.Option.{Option, none, some}
 use Prim.Native.Nat.{ℕ, _+_, _≤_, _<_}
 use native.Mathlib.Omega.{arith}
 use lib.ListN.{length, drop, getD}
-use borrow.Author.Tests.{eq-eqb, ne-eqb}
 use Rattle.grammar.specs.Tokens.{isWordNumberOrVariable}
 use Rattle.grammar.specs.Automaton.{Symbol, vars, terms, isBound}
 use Rattle.grammar.specs.Automaton.{Kind, kVar, kNum, kNeg, tokenOf, gap, first, after, run}
+use Rattle.grammar.proofs.Basics.{cond-cases}
 use Rattle.words.specs.Words.{tokenWord}
-use Rattle.scanner.specs.Begins.{Begun, Valued, Lacking}
+use Rattle.scanner.specs.Scans.{numeralFrom}
 use Rattle.scanner.specs.declared.Digits.{Digits}
 use Rattle.scanner.specs.declared.Digits.the-variants as D
+use Rattle.scanner.proofs.NumberLaws.{Begun, Valued, numeral-says}
 use Rattle.scanner.proofs.RunLaws.{move-at, same-at, stop-at}
-use Rattle.lexer.specs.Symbols.{code, digits, packed}
-use Rattle.lexer.specs.Steps.{Advanced, Advances}
-use Rattle.lexer.specs.Rules.{Allowed}
-use Rattle.lexer.specs.Begins.{Numbered, Numbers}
-use Rattle.lexer.specs.declared.Step.{Step}
-use Rattle.lexer.specs.declared.Step.the-variants as S
-use Rattle.lexer.specs.declared.Follow.{Follow}
-use Rattle.lexer.specs.declared.Follow.the-variants as F
-use Rattle.lexer.proofs.SymbolLaws.{vars-few, terms-few, bound-code}
-use Rattle.lexer.proofs.EntryLaws.{follow-with, follow-nothing}
-use Rattle.lexer.proofs.FirstByte.{var-none, var-some, minus-tight, minus-other, minus-bound}
+use Rattle.lexer.specs.Symbols.{digits, packed}
+use Rattle.lexer.specs.Rules.{followOf, follows}
+use Rattle.lexer.specs.NextToken.{numberToken, numberAt, whenAllowed, variableAt, negativeAt, positiveAt}
+use Rattle.lexer.proofs.Advances.{Advanced}
+use Rattle.lexer.proofs.SymbolLaws.{vars-few, terms-few}
+use Rattle.lexer.proofs.FirstByte.{var-none, var-some, minus-stop, minus-bound}
 use Rattle.lexer.proofs.FirstByte.{digit-tight, digit-bound, digit-none, digit-term}
 
 -- ---- a number as a token
@@ -48,106 +45,89 @@ number-tight kNeg v = refl
 
 -- the automaton stands before a number, at `at` or behind
 took-number :
-    (s : List ℕ) (at from : ℕ) (a : Bool) (X : Symbol) (l u : ℕ) (k : Kind) (p : ℕ) (α : List Symbol) (r : Step) → at ≤ from
+    (s : List ℕ) (at from : ℕ) (a : Bool) (X : Symbol) (l u : ℕ) (k : Kind) (p : ℕ) (α : List Symbol) → at ≤ from → from ≤ length s → 9 ≤ u
     → ((σ : List Symbol) → run (drop at s) at (gap a (X ∷ σ)) ≡ run (drop from s) from (first l u k (α ++ σ))) → p ≡ packed α
-    → length α ≤ 3 → Numbers s from l u (base k) p r → Advanced s at a X r
-took-number s at from a X l u k p α (S.Token x) h m e f n =
-    let forward = n .forward in
-    let v = n .value in
-    record {
-      token = tokenOf k v;
-      production = α;
-      word = n .word ∙ number-word k v;
-      pushes = n .pushes ∙ e;
-      ends = n .ends ∙ number-tight k v;
-      forward = omega arith;
-      inside = n .inside;
-      few = omega arith;
-      runs = λ σ.
-          m σ ∙ n .runs k (α ++ σ)
-          ∙ ap (λ (z : Bool). after (tokenOf k v ∷ []) (run (drop (x .next) s) (x .next) (gap z (α ++ σ)))) (number-tight k v);
-    }
-took-number s at from a X l u k p α (S.Fault q) h m e f n = λ σ. m σ ∙ n k (α ++ σ)
+    → length α ≤ 3 → Advanced s at a X (numberAt l u (base k) p s from)
+took-number s at from a X l u k p α h g q m e f =
+    let d = numeralFrom l u from (drop from s) in
+    took d (numeral-says s from l u d g q refl)
+  where
+    took : (d : Digits) → Begun s from l u d → Advanced s at a X (numberToken (base k) p from d)
+    took (D.Value v next) b =
+        let forward = b .forward in
+        record {
+          token = tokenOf k v;
+          production = α;
+          word = number-word k v;
+          pushes = e;
+          ends = number-tight k v;
+          forward = omega arith;
+          inside = b .inside;
+          few = omega arith;
+          runs = λ σ.
+              m σ ∙ b .runs k (α ++ σ)
+              ∙ ap (λ (z : Bool). after (tokenOf k v ∷ []) (run (drop next s) next (gap z (α ++ σ)))) (number-tight k v);
+        }
+    took D.Missing b = λ σ. m σ ∙ b .runs k (α ++ σ)
 
 none-packed : 0 ≡ packed []
 unfolding digits
 none-packed = refl
 
-is-bound : (n : ℕ) (X : Symbol) → n ≡ code X → n ≡ 7 → isBound X ≡ true
-is-bound n X i h = bound-code X ∙ eq-eqb (code X) 7 (sym i ∙ h)
-
-not-bound : (n : ℕ) (X : Symbol) → n ≡ code X → (n ≡ 7 → ⊥) → isBound X ≡ false
-not-bound n X i h = bound-code X ∙ ne-eqb (code X) 7 (λ e. h (i ∙ e))
-
 -- ---- by the first byte
 
-module _ (s : List ℕ) (at : ℕ) (a : Bool) (n : ℕ) (h : at < length s) where
+module _ (s : List ℕ) (at : ℕ) (a : Bool) (X : Symbol) (h : at < length s) where
   abbrev byte : ℕ
   byte = getD s at 0
 
-  module _ (q : byte ≡ 63) (f : Follow) (w : Allowed n 63 f) where
-    pub variable-fault : f ≡ F.Nothing → Advances s at a n (S.Fault at)
-    variable-fault e X i σ = stop-at s at (gap a (X ∷ σ)) h (var-none a X σ byte q (follow-nothing (vars X) f e (w X i)))
+  pub variable-says : byte ≡ 63 → Advanced s at a X (variableAt X s at)
+  variable-says q = go (vars X) refl
+    where
+      go : (o : Option (List Symbol)) → vars X ≡ o
+          → Advanced s at a X (whenAllowed at (λ p. numberAt 0 15 256 p s (at + 1)) (followOf o))
+      go none e = λ σ. stop-at s at (gap a (X ∷ σ)) h (var-none a X σ byte q e)
+      go (some α) e =
+          took-number s at (at + 1) a X 0 15 kVar (packed α) α (omega arith) (omega arith) (omega arith)
+          (λ σ. move-at s at (gap a (X ∷ σ)) (first 0 15 kVar (α ++ σ)) h (var-some a X σ byte α q e)) refl (vars-few X α e)
 
-    pub variable-token : (p : ℕ) (r : Step) → f ≡ F.With p → Numbers s (at + 1) 0 15 256 p r → Advances s at a n r
-    variable-token p r e g X i =
-        let o = follow-with (vars X) p f e (w X i) in
-        let α = o .production in
-        took-number s at (at + 1) a X 0 15 kVar p α r (omega arith)
-        (λ σ. move-at s at (gap a (X ∷ σ)) (first 0 15 kVar (α ++ σ)) h (var-some a X σ byte α q (o .is)))
-        (o .number) (vars-few X α (o .is)) g
-
-  module _ (q : byte ≡ 45) where
-    pub negative-tight : a ≡ true → Advances s at a n (S.Fault at)
-    negative-tight t X i σ = stop-at s at (gap a (X ∷ σ)) h (minus-tight a X σ byte q t)
-
-    pub negative-other : (n ≡ 7 → ⊥) → Advances s at a n (S.Fault at)
-    negative-other b X i σ = stop-at s at (gap a (X ∷ σ)) h (minus-other a X σ byte q (not-bound n X i b))
-
-    pub negative-token : (r : Step) → a ≡ false → n ≡ 7 → Numbers s (at + 1) 1 1000 4194304 0 r → Advances s at a n r
-    negative-token r t b g X i =
-        took-number s at (at + 1) a X 1 1000 kNeg 0 [] r (omega arith)
-        (λ σ. move-at s at (gap a (X ∷ σ)) (first 1 1000 kNeg σ) h (minus-bound a X σ byte q (is-bound n X i b) t))
-        none-packed (omega arith) g
+  pub negative-says : byte ≡ 45 → Advanced s at a X (negativeAt X a s at)
+  negative-says q =
+      cond-cases (Advanced s at a X) (isBound X && not a)
+      (λ e. took-number s at (at + 1) a X 1 1000 kNeg 0 [] (omega arith) (omega arith) (omega arith)
+      (λ σ. move-at s at (gap a (X ∷ σ)) (first 1 1000 kNeg σ) h (minus-bound a X σ byte q e)) none-packed (omega arith))
+      (λ e σ. stop-at s at (gap a (X ∷ σ)) h (minus-stop a X σ byte q e))
 
   module _ (l : 48 ≤ byte) (m : byte ≤ 57) where
-    pub positive-tight : a ≡ true → Advances s at a n (S.Fault at)
-    positive-tight t X i σ = stop-at s at (gap a (X ∷ σ)) h (digit-tight a X σ byte l m t)
+    term-says : a ≡ false → isBound X ≡ false
+        → Advanced s at a X (whenAllowed at (λ p. numberAt 1 1048575 2097152 p s at) (follows X 48))
+    term-says t b = go (terms X) refl
+      where
+        go : (o : Option (List Symbol)) → terms X ≡ o
+            → Advanced s at a X (whenAllowed at (λ p. numberAt 1 1048575 2097152 p s at) (followOf o))
+        go none e = λ σ. stop-at s at (gap a (X ∷ σ)) h (digit-none a X σ byte l m t b e)
+        go (some α) e =
+            took-number s at at a X 1 1048575 kNum (packed α) α (omega arith) (omega arith) (omega arith)
+            (λ σ. same-at s at (gap a (X ∷ σ)) (first 1 1048575 kNum (α ++ σ)) h (digit-term a X σ byte l m t α b e)) refl
+            (terms-few X α e)
 
-    pub positive-bound : (r : Step) → a ≡ false → n ≡ 7 → Numbers s at 0 1000 2097152 0 r → Advances s at a n r
-    positive-bound r t b g X i =
-        took-number s at at a X 0 1000 kNum 0 [] r (omega arith)
-        (λ σ. same-at s at (gap a (X ∷ σ)) (first 0 1000 kNum σ) h (digit-bound a X σ byte l m t (is-bound n X i b)))
-        none-packed (omega arith) g
+    pub positive-says : Advanced s at a X (positiveAt X a s at)
+    positive-says =
+        cond-cases (Advanced s at a X) a (λ t σ. stop-at s at (gap a (X ∷ σ)) h (digit-tight a X σ byte l m t))
+        (λ t. cond-cases (Advanced s at a X) (isBound X)
+        (λ b. took-number s at at a X 0 1000 kNum 0 [] (omega arith) (omega arith) (omega arith)
+        (λ σ. same-at s at (gap a (X ∷ σ)) (first 0 1000 kNum σ) h (digit-bound a X σ byte l m t b)) none-packed (omega arith))
+        (term-says t))
 
-    module _ (t : a ≡ false) (b : n ≡ 7 → ⊥) (f : Follow) (w : Allowed n 48 f) where
-      pub positive-fault : f ≡ F.Nothing → Advances s at a n (S.Fault at)
-      positive-fault e X i σ =
-          stop-at s at (gap a (X ∷ σ)) h
-          (digit-none a X σ byte l m t (not-bound n X i b) (follow-nothing (terms X) f e (w X i)))
+-- ---- the value
 
-      pub positive-token : (p : ℕ) (r : Step) → f ≡ F.With p → Numbers s at 1 1048575 2097152 p r → Advances s at a n r
-      positive-token p r e g X i =
-          let o = follow-with (terms X) p f e (w X i) in
-          let α = o .production in
-          took-number s at at a X 1 1048575 kNum p α r (omega arith)
-          (λ σ. same-at s at (gap a (X ∷ σ)) (first 1 1048575 kNum (α ++ σ)) h
-          (digit-term a X σ byte l m t α (not-bound n X i b) (o .is))) (o .number) (terms-few X α (o .is)) g
+pub numeral-most :
+    (s : List ℕ) (at l u : ℕ) (d : Digits) → at ≤ length s → 9 ≤ u → d ≡ numeralFrom l u at (drop at s) → (v n : ℕ) → d ≡ D.Value v n
+    → v ≤ u
+numeral-most s at l u d h q e v n g =
+    let b : Valued s at l u v n = subst (Begun s at l u) g (numeral-says s at l u d h q e) in
+    b .most
 
--- ---- by what `numeral` finds
-
-module _ (s : List ℕ) (at l u : ℕ) (d : Digits) (b : Begun s at l u d) where
-  valued : (v n : ℕ) → d ≡ D.Value v n → Valued s at l u v n
-  valued v n e = subst (Begun s at l u) e b
-
-  pub numeric-most : (v n : ℕ) → d ≡ D.Value v n → v ≤ u
-  numeric-most v n e = valued v n e .most
-
-  pub numeric-value :
-      (kind p v n : ℕ) → d ≡ D.Value v n → Numbered s at l u kind p (record { word = kind + v; next = n; tight = true; production = p })
-  numeric-value kind p v n e =
-      let w = valued v n e in
-      record { value = v; word = refl; ends = refl; pushes = refl; forward = w .forward; inside = w .inside; runs = w .runs }
-
-  pub numeric-missing : (kind p : ℕ) → d ≡ D.Missing → Numbers s at l u kind p (S.Fault at)
-  numeric-missing kind p e = let w : Lacking s at l u = subst (Begun s at l u) e b in w .runs
+pub number-token :
+    (s : List ℕ) (at l u kind p : ℕ) (d a : Digits) → d ≡ numeralFrom l u at (drop at s) → d ≡ a
+    → numberToken kind p at a ≡ numberAt l u kind p s at
+number-token s at l u kind p d a e q = ap (numberToken kind p at) (sym q ∙ e)

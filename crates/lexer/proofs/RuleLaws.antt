@@ -13,8 +13,8 @@ use lib.Seq.{drop-cons}
 use borrow.Author.Tests.{eqb-true}
 use Rattle.tsparql.specs.Strikes.{ascii}
 use Rattle.grammar.specs.Automaton.{Symbol, Entry, marks, vars, terms, find}
-use Rattle.lexer.specs.Symbols.{code, digits, packed}
-use Rattle.lexer.specs.Rules.{covering, productionOf, allows, followOf, Allowed}
+use Rattle.lexer.specs.Symbols.{code, digits, packed, Gives}
+use Rattle.lexer.specs.Rules.{covering, productionOf, allows, followOf, follows}
 use Rattle.lexer.specs.declared.Rule.{Rule}
 use Rattle.lexer.specs.declared.Follow.{Follow}
 use Rattle.lexer.specs.declared.Follow.the-variants as F
@@ -130,5 +130,5 @@ table-allows b X = query (eqb b 63) refl
     query true e = rw (eqb-true b 63 e) (table-var X)
     query false e = zero-digit (eqb b 48) refl e
 
-pub looked-up : (n b : ℕ) (r : Follow) → r ≡ lookup rules n b → Allowed n b r
+pub looked-up : (n b : ℕ) (r : Follow) → r ≡ lookup rules n b → Gives n (λ X. follows X b) r
 looked-up n b r e X q = e ∙ ap (λ (k : ℕ). lookup rules k b) q ∙ table-allows b X

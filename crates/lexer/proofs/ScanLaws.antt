@@ -12,11 +12,15 @@ use lib.Seq.{take-suc-set}
 use Rattle.grammar.specs.Tokens.{Token, isWordNumberOrVariable}
 use Rattle.grammar.specs.Automaton.{Symbol, sLBrace, sBody, gap, Outcome, accepted, fault, after, run, read, onto}
 use Rattle.words.specs.Words.{tokenWord}
-use Rattle.scanner.specs.Scans.{SkippedAll}
+use Rattle.scanner.specs.Scans.{skipFrom}
+use Rattle.scanner.proofs.SpaceLaws.{SkippedAll, skip-says}
 use Rattle.scanner.proofs.RunLaws.{after-nothing, after-after, stop-at, end-at}
-use Rattle.lexer.specs.Symbols.{digits}
+use Rattle.lexer.specs.Symbols.{digits, Gives}
 use Rattle.lexer.specs.Stacks.{Stacked}
-use Rattle.lexer.specs.Steps.{Took, Advanced, Advances, Pushes, faultIn, Scans}
+use Rattle.lexer.specs.NextToken.{nextToken}
+use Rattle.lexer.specs.Steps.{Pushes, faultIn, Scans}
+use Rattle.lexer.proofs.Advances.{Took, Advanced}
+use Rattle.lexer.proofs.NextLaws.{next-says}
 use Rattle.lexer.specs.declared.Step.{Step}
 use Rattle.lexer.specs.declared.Step.the-variants as S
 use Rattle.lexer.specs.declared.Scanned.{Scanned}
@@ -70,12 +74,14 @@ module _ {s words₀ stack₀ words stack : List ℕ} {depth at : ℕ} {tight : 
 
   -- ---- a turn
 
-  module _ (g : 0 < depth) (r : Step) (a : Advances s at tight (getD stack (depth - 1) 0) r) where
+  module _ (g : 0 < depth) (r : Step) (a : Gives (getD stack (depth - 1) 0) (λ X. nextToken X tight s at) r) where
     top : Top stack depth (c .symbols)
     top = stacked-top stack depth (c .symbols) g (omega (arith, c .low, c .inside, c .roomStack)) (c .stacked)
 
     advanced : (answer : Step) → r ≡ answer → Advanced s at tight (top .symbol) answer
-    advanced answer q = subst (Advanced s at tight (top .symbol)) q (a (top .symbol) (top .byte))
+    advanced answer q =
+        let X = top .symbol in
+        subst (Advanced s at tight X) (sym (a X (top .byte)) ∙ q) (next-says s at tight X (c .inside))
 
     -- it goes forward
     pub scanning-forward : (l : Lexeme) → r ≡ S.Token l → (at < l .next) × (l .next ≤ length s)
@@ -132,9 +138,12 @@ module _ {s words₀ stack₀ words stack : List ℕ} {depth at : ℕ} {tight : 
 
   -- ---- behind the last token
 
-  module _ (r : ℕ) (z : depth ≡ 0) (k : SkippedAll s at r) where
+  module _ (r : ℕ) (z : depth ≡ 0) (q : r ≡ skipFrom at (drop at s)) where
+    skipped : SkippedAll s at r
+    skipped = skip-says s at r (c .inside) q
+
     ends : (o : Outcome) → run (drop r s) r (gap (tight && eqb at r) []) ≡ o → read s ≡ after (c .done) o
-    ends o e = onward [] o (stacked-none stack (c .symbols) (rw z at (c .stacked))) (k .skipped .runs tight [] ∙ e)
+    ends o e = onward [] o (stacked-none stack (c .symbols) (rw z at (c .stacked))) (skipped .skipped .runs tight [] ∙ e)
 
     pub scanning-all : length s ≤ r → Scans s words (R.Tokens count)
     scanning-all h =
@@ -144,4 +153,4 @@ module _ {s words₀ stack₀ words stack : List ℕ} {depth at : ℕ} {tight : 
 
     pub scanning-surplus : r < length s → read s ≡ fault r
     unfolding onto
-    scanning-surplus h = ends (fault r) (stop-at s r (gap (tight && eqb at r) []) h (rw (k .stops h)))
+    scanning-surplus h = ends (fault r) (stop-at s r (gap (tight && eqb at r) []) h (rw (skipped .stops h)))

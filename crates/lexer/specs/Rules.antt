@@ -1,12 +1,11 @@
 -- What a symbol of the automaton allows at a first byte, and when a rule is for them (`covering`). Assumes nothing.
-use mathlib.Core.Path.{_≡_}
 use mathlib.Core.Bool.{Bool, cond, _&&_}
 use mathlib.Core.List.{List}
 use mathlib.Core.Option.{Option, none, some}
 use Prim.Native.Nat.{ℕ}
 use lib.Dec.{eqb, leb}
 use Rattle.grammar.specs.Automaton.{Symbol, Entry, marks, vars, terms, find}
-use Rattle.lexer.specs.Symbols.{code, packed}
+use Rattle.lexer.specs.Symbols.{packed}
 use Rattle.lexer.specs.declared.Rule.{Rule}
 use Rattle.lexer.specs.declared.Follow.{Follow}
 use Rattle.lexer.specs.declared.Follow.the-variants as F
@@ -29,6 +28,6 @@ abbrev pub followOf : Option (List Symbol) → Follow
 followOf none = F.Nothing
 followOf (some α) = F.With (packed α)
 
--- the same for whatever symbol the byte stands for
-abbrev pub Allowed : ℕ → ℕ → Follow → Type 0
-Allowed symbol first r = (X : Symbol) → symbol ≡ code X → r ≡ followOf (allows X first)
+-- of a symbol
+abbrev pub follows : Symbol → ℕ → Follow
+follows X first = followOf (allows X first)

@@ -1,4 +1,5 @@
 -- Symbols of the automaton as bytes, and a production as one number. Assumes nothing.
+use mathlib.Core.Path.{_≡_}
 use mathlib.Core.List.{List, [], _∷_, reverse}
 use Prim.Native.Nat.{ℕ, _+_, _*_}
 use Rattle.grammar.specs.Automaton.{Symbol, sBody, sAfterTriple, sAfterElement, sAfterGroup, sSlot, sVar, sBound}
@@ -23,6 +24,10 @@ code sRParen = 14
 code sComma = 15
 code sAS = 16
 code sTRUST = 17
+
+-- r is what f gives for the symbol that the byte stands for
+abbrev pub Gives : {A : Type 0} → ℕ → (Symbol → A) → A → Type 0
+Gives byte f r = (X : Symbol) → byte ≡ code X → r ≡ f X
 
 -- symbols as digits to the base 32, the first one the lowest
 unfoldable pub digits : List Symbol → ℕ

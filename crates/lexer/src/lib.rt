@@ -2,11 +2,12 @@
 ghost use mathlib.Core.Bool.{false, _&&_};
 ghost use mathlib.Core.Path.{_≡_};
 ghost use Prim.Native.Nat.{_+_, _*_, _≤_, _<_};
-ghost use lib.ListN.{length, getD};
-ghost use Rattle.grammar.specs.Tokens.{isSpace, isCapital};
-ghost use Rattle.lexer.specs.Rules.{covering, Allowed};
-ghost use Rattle.lexer.specs.Steps.{Advances, Pushes, faultIn, Scans};
-ghost use Rattle.lexer.specs.Begins.{Spelling, Numbers, Other};
+ghost use lib.ListN.{length};
+ghost use Rattle.grammar.specs.Tokens.{isCapital};
+ghost use Rattle.lexer.specs.Symbols.{Gives};
+ghost use Rattle.lexer.specs.Rules.{covering, follows};
+ghost use Rattle.lexer.specs.Steps.{Pushes, faultIn, Scans};
+ghost use Rattle.lexer.specs.NextToken.{numberAt, wordAt, variableAt, negativeAt, positiveAt, fixedAt, tokenAt, nextToken};
 use scanner::Digits;
 use scanner::Literal;
 use scanner::capital;
@@ -131,7 +132,7 @@ fn covers(rule: Rule, symbol: u8, first: u8) -> bool
 
 // What the symbol allows with this first byte.
 fn allowed(symbol: u8, first: u8) -> Follow
-    ensures { λ r. ⌜ Allowed symbol first r ⌝ }
+    ensures { λ r. ⌜ Gives symbol (λ X. follows X first) r ⌝ }
 {
     let rules = RULES;
     let mut i = 0;
@@ -183,7 +184,7 @@ const START: u64 = 385;
 // A number from least to most as a token of the kind.
 fn numeric(s: &[u8], at: usize, least: u32, most: u32, kind: u32, production: u64) -> Step
     requires { ⌜ (at ≤ length (now s)) × (least ≤ 1) × (9 ≤ most) × (most < 2000000) × (kind ≤ 4194304) ⌝ }
-    ensures { λ r. ⌜ Numbers (now (s .entry)) at least most kind production r ⌝ }
+    ensures { λ r. ⌜ r ≡ numberAt least most kind production (now (s .entry)) at ⌝ }
 {
     let d = numeral(s, at, least, most);
     match d {
@@ -198,9 +199,9 @@ fn numeric(s: &[u8], at: usize, least: u32, most: u32, kind: u32, production: u6
 }
 
 // A token that begins with a question mark.
-fn variable(s: &[u8], at: usize, tight: bool, symbol: u8) -> Step
-    requires { ⌜ (at < length (now s)) × (getD (now s) at 0 ≡ 63) ⌝ }
-    ensures { λ r. ⌜ Advances (now (s .entry)) at tight symbol r ⌝ }
+fn variable(s: &[u8], at: usize, symbol: u8) -> Step
+    requires { ⌜ at < length (now s) ⌝ }
+    ensures { λ r. ⌜ Gives symbol (λ X. variableAt X (now (s .entry)) at) r ⌝ }
 {
     let f = allowed(symbol, b'?');
     let Follow::With(p) = f else {
@@ -211,8 +212,8 @@ fn variable(s: &[u8], at: usize, tight: bool, symbol: u8) -> Step
 
 // A token that begins with a minus sign.
 fn negative(s: &[u8], at: usize, tight: bool, symbol: u8) -> Step
-    requires { ⌜ (at < length (now s)) × (getD (now s) at 0 ≡ 45) ⌝ }
-    ensures { λ r. ⌜ Advances (now (s .entry)) at tight symbol r ⌝ }
+    requires { ⌜ at < length (now s) ⌝ }
+    ensures { λ r. ⌜ Gives symbol (λ X. negativeAt X tight (now (s .entry)) at) r ⌝ }
 {
     if tight {
         return Step::Fault(at);
@@ -225,8 +226,8 @@ fn negative(s: &[u8], at: usize, tight: bool, symbol: u8) -> Step
 
 // A token that begins with a digit.
 fn positive(s: &[u8], at: usize, tight: bool, symbol: u8) -> Step
-    requires { ⌜ (at < length (now s)) × (48 ≤ getD (now s) at 0) × (getD (now s) at 0 ≤ 57) ⌝ }
-    ensures { λ r. ⌜ Advances (now (s .entry)) at tight symbol r ⌝ }
+    requires { ⌜ at < length (now s) ⌝ }
+    ensures { λ r. ⌜ Gives symbol (λ X. positiveAt X tight (now (s .entry)) at) r ⌝ }
 {
     if tight {
         return Step::Fault(at);
@@ -244,7 +245,7 @@ fn positive(s: &[u8], at: usize, tight: bool, symbol: u8) -> Step
 // A fixed token, by its first byte.
 fn spelled(s: &[u8], at: usize, production: u64) -> Step
     requires { ⌜ at < length (now s) ⌝ }
-    ensures { λ r. ⌜ Spelling (now (s .entry)) at production r ⌝ }
+    ensures { λ r. ⌜ r ≡ wordAt production (now (s .entry)) at ⌝ }
 {
     let b = s[at];
     let word = b as u32;
@@ -263,8 +264,8 @@ fn spelled(s: &[u8], at: usize, production: u64) -> Step
 
 // A token that begins with any other byte.
 fn fixed(s: &[u8], at: usize, tight: bool, symbol: u8) -> Step
-    requires { ⌜ (at < length (now s)) × Other (getD (now s) at 0) ⌝ }
-    ensures { λ r. ⌜ Advances (now (s .entry)) at tight symbol r ⌝ }
+    requires { ⌜ at < length (now s) ⌝ }
+    ensures { λ r. ⌜ Gives symbol (λ X. fixedAt X tight (now (s .entry)) at) r ⌝ }
 {
     let b = s[at];
     let f = allowed(symbol, b);
@@ -279,12 +280,12 @@ fn fixed(s: &[u8], at: usize, tight: bool, symbol: u8) -> Step
 
 // The token whose first byte stands at a place.
 fn begin(s: &[u8], at: usize, tight: bool, symbol: u8) -> Step
-    requires { ⌜ (at < length (now s)) × (isSpace (getD (now s) at 0) ≡ false) ⌝ }
-    ensures { λ r. ⌜ Advances (now (s .entry)) at tight symbol r ⌝ }
+    requires { ⌜ at < length (now s) ⌝ }
+    ensures { λ r. ⌜ Gives symbol (λ X. tokenAt X tight (now (s .entry)) at) r ⌝ }
 {
     let b = s[at];
     if b == b'?' {
-        return variable(s, at, tight, symbol);
+        return variable(s, at, symbol);
     }
     if b == b'-' {
         return negative(s, at, tight, symbol);
@@ -301,7 +302,7 @@ fn begin(s: &[u8], at: usize, tight: bool, symbol: u8) -> Step
 // The next token, which the symbol on top allows.
 fn advance(s: &[u8], at: usize, tight: bool, symbol: u8) -> Step
     requires { ⌜ at ≤ length (now s) ⌝ }
-    ensures { λ r. ⌜ Advances (now (s .entry)) at tight symbol r ⌝ }
+    ensures { λ r. ⌜ Gives symbol (λ X. nextToken X tight (now (s .entry)) at) r ⌝ }
 {
     let i = skip(s, at);
     if s.len() <= i {

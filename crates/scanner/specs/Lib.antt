@@ -1,4 +1,3 @@
 -- What the functions promise that read at a place of a text.
 pub mod Scans
 pub mod Fixed
-pub mod Begins

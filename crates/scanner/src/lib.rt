@@ -1,18 +1,17 @@
 // What a text has at a place: white space, fixed tokens, numbers.
 ghost use mathlib.Core.Path.{_≡_};
 ghost use Prim.Native.Nat.{_≤_, _<_};
-ghost use lib.ListN.{length, getD};
+ghost use lib.ListN.{length, drop, getD};
 ghost use Rattle.grammar.specs.Tokens.{isCapital};
-ghost use Rattle.scanner.specs.Scans.{SkippedAll, Counted, common};
+ghost use Rattle.scanner.specs.Scans.{skipFrom, common, numberFrom, numeralFrom};
 ghost use Rattle.scanner.specs.Fixed.{compared, shortKeyword, keywordOf, fixedToken};
-ghost use Rattle.scanner.specs.Begins.{Begun};
 
 // ---- white space
 
 // The first place from a place on that holds none.
 pub fn skip(s: &[u8], at: usize) -> usize
     requires { ⌜ at ≤ length (now s) ⌝ }
-    ensures { λ r. ⌜ SkippedAll (now (s .entry)) at r ⌝ }
+    ensures { λ r. ⌜ r ≡ skipFrom at (drop at (now (s .entry))) ⌝ }
 {
     let mut i = at;
     while i < s.len() {
@@ -124,7 +123,7 @@ pub struct Numeric {
 // The number that begins with the value v and goes on with the digits from a place on, as far as it stays within u.
 fn number(s: &[u8], at: usize, v: u32, u: u32) -> Numeric
     requires { ⌜ (at ≤ length (now s)) × (v ≤ u) × (u < 2000000) ⌝ }
-    ensures { λ r. ⌜ Counted (now (s .entry)) u v at (r .value) (r .next) ⌝ }
+    ensures { λ r. ⌜ r ≡ numberFrom u v at (drop at (now (s .entry))) ⌝ }
 {
     let mut i = at;
     let mut x = v;
@@ -158,7 +157,7 @@ pub enum Digits {
 // A number from l, 0 or 1, to u whose first digit stands at a place.
 pub fn numeral(s: &[u8], at: usize, l: u32, u: u32) -> Digits
     requires { ⌜ (at ≤ length (now s)) × (l ≤ 1) × (9 ≤ u) × (u < 2000000) ⌝ }
-    ensures { λ r. ⌜ Begun (now (s .entry)) at l u r ⌝ }
+    ensures { λ r. ⌜ r ≡ numeralFrom l u at (drop at (now (s .entry))) ⌝ }
 {
     if s.len() <= at {
         return Digits::Missing;

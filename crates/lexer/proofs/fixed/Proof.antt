@@ -1,6 +1,6 @@
 -- A fixed token that the symbol allows. Assumes nothing.
-use mathlib.Core.Path.{sym, _∙_}
-use Rattle.lexer.proofs.FixedLaws.{fixed-fault, fixed-tight, fixed-token}
+use mathlib.Core.Path.{refl, sym, _∙_}
+use Rattle.lexer.proofs.TokenLaws.{fixed-returns, fixed-tight, fixed-apart}
 use borrow.Author.Needs.{needs}
 use Rattle.lexer.proofs.fixed.Statement.{statement}
 use Rattle.lexer.proofs.fixed.Tie as tie
@@ -22,8 +22,8 @@ returns c =
     let call = c .before .before in
     let start = call .before .before .before in
     let a = start .args in
-    fixed-fault (a .s .now) (a .at) (a .tight) (a .symbol) (start .pre .0) (start .pre .1) (call .allowed .result)
-    (call .allowed .ensures) (c .enum-told .given .1)
+    fixed-returns (a .s .now) (a .at) (a .symbol) (a .tight) (call .allowed .result) _ (call .allowed .ensures) (c .enum-told .given .1) _
+    refl
 
 clings-requires : tie.Need-clings-requires
 clings-requires c κs = search needs
@@ -34,8 +34,8 @@ returns-2 c =
     let call = follow .before .before in
     let start = call .before .before .before in
     let a = start .args in
-    fixed-tight (a .s .now) (a .at) (a .tight) (a .symbol) (start .pre .0) (start .pre .1) (call .allowed .result)
-    (call .allowed .ensures) _ (follow .f .given .1) (sym (c .before .clings .ensures) ∙ c .if1 .taken)
+    fixed-returns (a .s .now) (a .at) (a .symbol) (a .tight) (call .allowed .result) _ (call .allowed .ensures) (follow .f .given .1) _
+    (fixed-tight (a .s .now) (a .at) (a .symbol) (a .tight) _ (sym (c .before .clings .ensures) ∙ c .if1 .taken))
 
 spelled-requires : tie.Need-spelled-requires
 spelled-requires c κs = search needs
@@ -47,9 +47,9 @@ returns-3 c =
     let call = follow .before .before in
     let start = call .before .before .before in
     let a = start .args in
-    fixed-token (a .s .now) (a .at) (a .tight) (a .symbol) (start .pre .0) (start .pre .1) (call .allowed .result)
-    (call .allowed .ensures) _ (follow .f .given .1) (c .spelled .result) (sym (loose .clings .ensures) ∙ c .before .if1 .left)
-    (c .spelled .ensures)
+    fixed-returns (a .s .now) (a .at) (a .symbol) (a .tight) (call .allowed .result) _ (call .allowed .ensures) (follow .f .given .1) _
+    (fixed-apart (a .s .now) (a .at) (a .symbol) (a .tight) _ (c .spelled .result) (sym (loose .clings .ensures) ∙ c .before .if1 .left)
+    (c .spelled .ensures))
 
 pub fixed-spec : {M : Type 1} → statement M
 fixed-spec =

@@ -1,14 +1,14 @@
 -- A number behind a minus sign, where a bound has to come. Assumes nothing.
-use Rattle.lexer.proofs.NumberLaws.{negative-tight, negative-other, negative-token}
+use Rattle.lexer.proofs.TokenLaws.{negative-tight, negative-other, negative-bound}
 use borrow.Author.Needs.{needs}
 use Rattle.lexer.proofs.negative.Statement.{statement}
 use Rattle.lexer.proofs.negative.Tie as tie
 
 returns : tie.Need-returns
-returns c = negative-tight _ _ _ _ (c .before .before .pre .0) (c .before .before .pre .1) (c .if1 .taken)
+returns c = let a = c .before .before .args in negative-tight (a .s .now) (a .at) (a .symbol) (a .tight) (c .if1 .taken)
 
 returns-2 : tie.Need-returns-2
-returns-2 c = negative-other _ _ _ _ (c .before .before .before .pre .0) (c .before .before .before .pre .1) (c .if2 .taken)
+returns-2 c = let a = c .before .before .before .args in negative-other (a .s .now) (a .at) (a .symbol) (a .tight) (c .if2 .taken)
 
 add-numeric : tie.Need-add-numeric
 add-numeric c = search needs
@@ -20,8 +20,8 @@ returns-3 : tie.Need-returns-3
 returns-3 c =
     let start = c .before .before .before .before in
     let a = start .args in
-    negative-token (a .s .now) (a .at) (a .tight) (a .symbol) (start .pre .0) (start .pre .1) (c .numeric .result)
-    (c .before .before .if1 .left) (c .before .if2 .left) (c .numeric .ensures)
+    negative-bound (a .s .now) (a .at) (a .symbol) (a .tight) (c .numeric .result) (c .before .before .if1 .left) (c .before .if2 .left)
+    (c .numeric .ensures)
 
 pub negative-spec : {M : Type 1} → statement M
 negative-spec = tie.close (tie.spec returns returns-2 add-numeric numeric-requires returns-3)

@@ -1,6 +1,6 @@
 -- A number as a token, by what `numeral` finds. Assumes nothing.
 use native.Mathlib.Omega.{arith}
-use Rattle.lexer.proofs.NumberLaws.{numeric-most, numeric-value, numeric-missing}
+use Rattle.lexer.proofs.NumberLaws.{numeral-most, number-token}
 use borrow.Author.Needs.{needs}
 use Rattle.lexer.proofs.numeric.Statement.{statement}
 use Rattle.lexer.proofs.numeric.Tie as tie
@@ -13,23 +13,32 @@ enum-known-d c = search needs
 
 add-t11 : tie.Need-add-t11
 add-t11 c =
-    let start = c .before .before .before .before .before in
-    let call = c .before .before .before .numeral in
-    omega (arith, numeric-most _ _ _ _ (call .result) (call .ensures) _ _ (c .before .d .given .1), start .pre)
+    let call = c .before .before .before in
+    let start = call .before .before in
+    let a = start .args in
+    omega (
+      arith,
+      start .pre,
+      numeral-most (a .s .now) (a .at) (a .least) (a .most) (call .numeral .result) (search needs) (search needs)
+          (call .numeral .ensures) _ _ (c .before .d .given .1),
+    )
 
 enum-told : tie.Need-enum-told
 enum-told c = search needs
 
 returns : tie.Need-returns
 returns c =
-    let call = c .before .before .before .numeral in
-    numeric-value _ _ _ _ (call .result) (call .ensures) _ _ _ _ (c .before .d .given .1)
+    let call = c .before .before .before in
+    let a = call .before .before .args in
+    number-token (a .s .now) (a .at) (a .least) (a .most) (a .kind) (a .production) (call .numeral .result) _ (call .numeral .ensures)
+    (c .before .d .given .1)
 
 returns-2 : tie.Need-returns-2
 returns-2 c =
-    let start = c .before .before .before .before in
-    let call = c .before .before .numeral in
-    numeric-missing _ _ _ _ (call .result) (call .ensures) (start .args .kind) (start .args .production) (c .enum-told .given .1)
+    let call = c .before .before in
+    let a = call .before .before .args in
+    number-token (a .s .now) (a .at) (a .least) (a .most) (a .kind) (a .production) (call .numeral .result) _ (call .numeral .ensures)
+    (c .enum-told .given .1)
 
 pub numeric-spec : {M : Type 1} → statement M
 numeric-spec =

@@ -1,13 +1,14 @@
 -- A bound or a term, by the symbol. Assumes nothing.
-use Rattle.lexer.proofs.NumberLaws.{positive-tight, positive-bound, positive-fault, positive-token}
+use mathlib.Core.Path.{refl}
+use Rattle.lexer.proofs.TokenLaws.{allowed-returns, positive-tight, positive-bound, positive-term}
 use borrow.Author.Needs.{needs}
 use Rattle.lexer.proofs.positive.Statement.{statement}
 use Rattle.lexer.proofs.positive.Tie as tie
 
 returns : tie.Need-returns
 returns c =
-    let start = c .before .before in
-    positive-tight _ _ _ _ (start .pre .0) (start .pre .1) (start .pre .2) (c .if1 .taken)
+    let a = c .before .before .args in
+    positive-tight (a .s .now) (a .at) (a .symbol) (a .tight) (c .if1 .taken)
 
 numeric-requires : tie.Need-numeric-requires
 numeric-requires c κs = search needs
@@ -16,8 +17,8 @@ returns-2 : tie.Need-returns-2
 returns-2 c =
     let start = c .before .before .before .before in
     let a = start .args in
-    positive-bound (a .s .now) (a .at) (a .tight) (a .symbol) (start .pre .0) (start .pre .1) (start .pre .2) (c .numeric .result)
-    (c .before .before .if1 .left) (c .before .if2 .taken) (c .numeric .ensures)
+    positive-bound (a .s .now) (a .at) (a .symbol) (a .tight) (c .numeric .result) (c .before .before .if1 .left) (c .before .if2 .taken)
+    (c .numeric .ensures)
 
 allowed-requires : tie.Need-allowed-requires
 allowed-requires c κs = search needs
@@ -33,8 +34,9 @@ returns-3 c =
     let call = c .before .before in
     let bound = call .before in
     let start = bound .before .before .before in
-    positive-fault _ _ _ _ (start .pre .0) (start .pre .1) (start .pre .2) (bound .before .if1 .left) (bound .if2 .left)
-    (call .allowed .result) (call .allowed .ensures) (c .enum-told .given .1)
+    let a = start .args in
+    positive-term (a .s .now) (a .at) (a .symbol) (a .tight) _ (bound .before .if1 .left) (bound .if2 .left)
+    (allowed-returns (a .symbol) 48 _ _ (call .allowed .result) _ _ (call .allowed .ensures) (c .enum-told .given .1) refl)
 
 numeric-requires-2 : tie.Need-numeric-requires-2
 numeric-requires-2 c κs = search needs
@@ -45,9 +47,9 @@ returns-4 c =
     let bound = call .before in
     let start = bound .before .before .before in
     let a = start .args in
-    positive-token (a .s .now) (a .at) (a .tight) (a .symbol) (start .pre .0) (start .pre .1) (start .pre .2) (bound .before .if1 .left)
-    (bound .if2 .left) (call .allowed .result) (call .allowed .ensures) _ (c .numeric2 .result) (c .before .before .f .given .1)
-    (c .numeric2 .ensures)
+    positive-term (a .s .now) (a .at) (a .symbol) (a .tight) (c .numeric2 .result) (bound .before .if1 .left) (bound .if2 .left)
+    (allowed-returns (a .symbol) 48 _ _ (call .allowed .result) _ _ (call .allowed .ensures) (c .before .before .f .given .1)
+    (c .numeric2 .ensures))
 
 pub positive-spec : {M : Type 1} → statement M
 positive-spec =

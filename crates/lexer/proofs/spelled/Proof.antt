@@ -1,6 +1,6 @@
 -- A fixed token, whole, or the place where it differs. Assumes nothing.
 use native.Mathlib.Omega.{arith}
-use Rattle.lexer.proofs.FixedLaws.{part-first, whole-inside, part-inside, spelled-whole, spelled-part}
+use Rattle.lexer.proofs.FixedLaws.{part-first, whole-inside, part-inside, word-token}
 use borrow.Author.Needs.{needs}
 use Rattle.lexer.proofs.spelled.Statement.{statement}
 use Rattle.lexer.proofs.spelled.Tie as tie
@@ -56,15 +56,16 @@ returns c =
     let capital = call .before .before in
     let start = capital .before .before .before in
     let a = start .args in
-    spelled-whole (a .s .now) (a .at) (call .fixed-token .result) (start .pre) (call .fixed-token .ensures) _ _ _
-    (c .before .k .given .1) (capital .capital .ensures)
+    rw (capital .capital .ensures)
+    (word-token (a .s .now) (a .at) (call .fixed-token .result) (start .pre) (call .fixed-token .ensures) _ _ (c .before .k .given .1))
 
 returns-2 : tie.Need-returns-2
 returns-2 c =
     let call = c .before .before .before in
     let start = call .before .before .before .before .before in
     let a = start .args in
-    spelled-part (a .s .now) (a .at) (call .fixed-token .result) (start .pre) (call .fixed-token .ensures) _ (c .before .k2 .given .1)
+    word-token (a .s .now) (a .at) (call .fixed-token .result) (start .pre) (call .fixed-token .ensures) (a .production) _
+    (c .before .k2 .given .1)
 
 pub spelled-spec : {M : Type 1} → statement M
 spelled-spec =

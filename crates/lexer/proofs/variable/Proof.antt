@@ -1,5 +1,6 @@
 -- A variable, where the symbol allows one. Assumes nothing.
-use Rattle.lexer.proofs.NumberLaws.{variable-fault, variable-token}
+use mathlib.Core.Path.{refl}
+use Rattle.lexer.proofs.TokenLaws.{allowed-returns}
 use borrow.Author.Needs.{needs}
 use Rattle.lexer.proofs.variable.Statement.{statement}
 use Rattle.lexer.proofs.variable.Tie as tie
@@ -17,7 +18,7 @@ returns : tie.Need-returns
 returns c =
     let start = c .before .before .before .before in
     let call = c .before .before .allowed in
-    variable-fault _ _ _ _ (start .pre .0) (start .pre .1) (call .result) (call .ensures) (c .enum-told .given .1)
+    allowed-returns (start .args .symbol) 63 _ _ (call .result) _ _ (call .ensures) (c .enum-told .given .1) refl
 
 add-numeric : tie.Need-add-numeric
 add-numeric c = search needs
@@ -30,8 +31,7 @@ returns-2 c =
     let start = c .before .before .before .before .before .before in
     let call = c .before .before .before .before .allowed in
     let a = start .args in
-    variable-token (a .s .now) (a .at) (a .tight) (a .symbol) (start .pre .0) (start .pre .1) (call .result) (call .ensures) _
-    (c .numeric .result) (c .before .before .f .given .1) (c .numeric .ensures)
+    allowed-returns (a .symbol) 63 _ _ (call .result) _ _ (call .ensures) (c .before .before .f .given .1) (c .numeric .ensures)
 
 pub variable-spec : {M : Type 1} → statement M
 variable-spec =
