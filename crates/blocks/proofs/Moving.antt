@@ -1,14 +1,16 @@
 -- The loop that moves a block on by one byte: what it has moved so far (`Moved`), and the buffer at its end. Assumes nothing.
 use mathlib.Core.Path.{_≡_, refl, sym, ap, _∙_}
+use mathlib.Core.Bool as B
 use mathlib.Core.List.{List, _∷_, _++_}
 use Prim.Native.Nat.{ℕ, zero, suc, _+_, _-_, _≤_, _<_}
 use native.Mathlib.Omega.{arith}
 use native.Mathlib.Numerals.{add-one}
 use native.Mathlib.Nat.{le-refl, sub-self}
+use lib.Dec.{leb}
 use lib.ListN.{length, take, drop, getD, set, length-set, take-append-drop, List·getD-append}
 use lib.Seq.{take-suc, drop-cons, set-at, length-take-le, getD-take, append-snoc}
-use borrow.Author.Tests.{lt-ltb, le-ltb}
-use Rattle.blocks.specs.Blocks.{inserted, insertedIn, insertedEnd}
+use borrow.Author.Tests.{le-leb, lt-leb, lt-ltb, le-ltb}
+use Rattle.blocks.specs.Buffers.{buffer, shifted, inserted}
 
 -- what stands from i to e has moved on, and the byte at i is still there
 abbrev pub moved : List ℕ → ℕ → ℕ → List ℕ
@@ -74,24 +76,26 @@ pub moved-one : (l now : List ℕ) (at e i : ℕ) → at < i → Moved l now at 
 moved-one l now at e (zero) h m = absurd (omega arith)
 moved-one l now at e (suc j) h m = let q : suc j - 1 ≡ j = omega arith in rw q (one-back l now at e j (omega arith) m)
 
-moved-last : (l now : List ℕ) (at e i v : ℕ) → i ≤ at → Moved l now at e i → set now at v ≡ inserted l at e v
+moved-last : (l now : List ℕ) (at e i v : ℕ) → i ≤ at → Moved l now at e i → set now at v ≡ shifted l at e v
 moved-last l now at e i v h m =
     let q : i ≡ at = let f = m .from in omega arith in
     let t = m .to in
     let r = m .room in
     ap (λ (x : List ℕ). set x at v) (m .so ∙ ap (λ (n : ℕ). moved l n e) q) ∙ store l _ at v (omega arith)
 
--- the buffer and the end where there is room, and where there is none
-pub insert-room :
-    (l now : List ℕ) (at e i v : ℕ) → e < length l → i ≤ at → Moved l now at e i
-    → (e + 1 ≡ insertedEnd (length l) e) × (set now at v ≡ insertedIn l at e v)
-insert-room l now at e i v r h m =
-    let f : e + 1 ≡ insertedEnd (length l) e = rw (lt-ltb e (length l) r) in
-    let g : set now at v ≡ insertedIn l at e v = rw (lt-ltb e (length l) r) (moved-last l now at e i v h m) in
-    (f, g)
+-- ---- the buffer where there is room, and where there is none
 
-pub insert-none : (l : List ℕ) (at e v : ℕ) → length l ≤ e → (e ≡ insertedEnd (length l) e) × (l ≡ insertedIn l at e v)
-insert-none l at e v r =
-    let f : e ≡ insertedEnd (length l) e = rw (le-ltb e (length l) r) in
-    let g : l ≡ insertedIn l at e v = rw (le-ltb e (length l) r) in
-    (f, g)
+pub insert-room :
+    (l now : List ℕ) (at e i v : ℕ) → at ≤ e → e < length l → i ≤ at → Moved l now at e i
+    → buffer (set now at v) (e + 1) ≡ inserted (buffer l e) at v
+unfolding inserted
+insert-room l now at e i v k r h m =
+    rw (le-leb at e k, lt-ltb e (length l) r) (ap (λ (x : List ℕ). buffer x (e + 1)) (moved-last l now at e i v h m))
+
+pub insert-full : (l : List ℕ) (at e v : ℕ) → length l ≤ e → buffer l e ≡ inserted (buffer l e) at v
+unfolding inserted
+insert-full l at e v r = sym (rw (le-ltb e (length l) r, B.and-false (leb at e)))
+
+pub insert-behind : (l : List ℕ) (at e v : ℕ) → e < at → buffer l e ≡ inserted (buffer l e) at v
+unfolding inserted
+insert-behind l at e v r = sym (rw (lt-leb at e r))

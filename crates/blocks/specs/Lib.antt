@@ -1,2 +1,3 @@
--- Blocks of bytes in a buffer.
+-- A buffer after a change, and what that says of the blocks of bytes in it.
+pub mod Buffers
 pub mod Blocks

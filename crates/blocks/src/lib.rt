@@ -1,17 +1,15 @@
 // Blocks of bytes, one behind the other from the front of a lent buffer up to an end: a byte comes in front of a block or behind the
-// last one, and two neighbours change places. The functions that add a byte answer the new end. What stands behind the end is free, and
-// where there is no room nothing is promised.
+// last one, and two neighbours change places. The functions that add a byte answer the new end; where there is no room nothing changes.
 ghost use mathlib.Core.List.{[], _∷_};
 ghost use mathlib.Core.Path.{_≡_};
 ghost use Prim.Native.Nat.{_≤_};
-ghost use lib.ListN.{length};
-ghost use Rattle.blocks.specs.Blocks.{insertedEnd, insertedIn, Puts, Exchanges, Appends};
+ghost use Rattle.blocks.specs.Buffers.{buffer, inserted, appended, exchanged};
 use bytes::reverse;
 
 // The byte v at a place, and what stands from there to the end one place on; nothing where there is no room.
 fn insert(out: &mut [u8], at: usize, end: usize, v: u8) -> usize
     requires { ⌜ at ≤ end ⌝ }
-    ensures { λ r. ⌜ (r ≡ insertedEnd (length (now (out .entry))) end) × (now (out .exit) ≡ insertedIn (now (out .entry)) at end v) ⌝ }
+    ensures { λ r. ⌜ buffer (now (out .exit)) r ≡ inserted (buffer (now (out .entry)) end) at v ⌝ }
 {
     if out.len() <= end {
         return end;
@@ -27,7 +25,7 @@ fn insert(out: &mut [u8], at: usize, end: usize, v: u8) -> usize
 
 // The byte v in front of the last block, which stands from a place to the end.
 pub fn put(out: &mut [u8], at: usize, end: usize, v: u8) -> usize
-    ensures { λ r. ⌜ Puts (now (out .entry)) (now (out .exit)) at end v r ⌝ }
+    ensures { λ r. ⌜ buffer (now (out .exit)) r ≡ inserted (buffer (now (out .entry)) end) at v ⌝ }
 {
     if end < at {
         return end;
@@ -37,14 +35,14 @@ pub fn put(out: &mut [u8], at: usize, end: usize, v: u8) -> usize
 
 // A byte behind the last block.
 pub fn append(out: &mut [u8], end: usize, v: u8) -> usize
-    ensures { λ r. ⌜ Appends (now (out .entry)) (now (out .exit)) end (v ∷ []) r ⌝ }
+    ensures { λ r. ⌜ buffer (now (out .exit)) r ≡ appended (buffer (now (out .entry)) end) (v ∷ []) ⌝ }
 {
     put(out, end, end, v)
 }
 
 // Three bytes behind it.
 pub fn append3(out: &mut [u8], end: usize, a: u8, b: u8, c: u8) -> usize
-    ensures { λ r. ⌜ Appends (now (out .entry)) (now (out .exit)) end (a ∷ b ∷ c ∷ []) r ⌝ }
+    ensures { λ r. ⌜ buffer (now (out .exit)) r ≡ appended (buffer (now (out .entry)) end) (a ∷ b ∷ c ∷ []) ⌝ }
 {
     let n = append(out, end, a);
     let m = append(out, n, b);
@@ -53,7 +51,7 @@ pub fn append3(out: &mut [u8], end: usize, a: u8, b: u8, c: u8) -> usize
 
 // The last two blocks, from `at` to `mid` and on to the end, change places: each is reversed, and then the whole.
 pub fn exchange(out: &mut [u8], at: usize, mid: usize, end: usize)
-    ensures { λ _. ⌜ Exchanges (now (out .entry)) (now (out .exit)) at mid end ⌝ }
+    ensures { λ _. ⌜ now (out .exit) ≡ exchanged (now (out .entry)) at mid end ⌝ }
 {
     if mid < at {
         return;

@@ -20,7 +20,7 @@ use Rattle.grammar.specs.Grammar.{Negatable, bound, not, parens}
 use Rattle.grammar.specs.Meaning.{disjunctionOf, primaryOf}
 use Rattle.blocks.specs.Blocks.{Holds, Appends}
 use Rattle.words.specs.Words.{words}
-use Rattle.clauses.specs.Tails.{tail, andWith, orBytes, andBytes, negations, notBytes}
+use Rattle.clauses.specs.Tails.{tailTokens, andWith, orBytes, andBytes, negations, notBytes}
 use Rattle.clauses.specs.Clauses.{Conditions, Operands, Expects, Ended, State, Wrote, Connects}
 use Rattle.clauses.specs.declared.Block.{Block}
 use Rattle.clauses.specs.declared.Clause.{Clause}
@@ -118,7 +118,7 @@ module _ {t : List ℕ} {rest : List Token} {final : Condition} {pre out : List 
   -- where it was written, what connects it is to come
   expects-wrote :
       (out′ : List ℕ) (b : Block) → length out′ ≡ length out
-      → (drop (b .next) t ≡ words (tail (x .later) (mark RPAREN ∷ rest)))
+      → (drop (b .next) t ≡ words (tailTokens (x .later) (mark RPAREN ∷ rest)))
       × Holds out′ (opened ++ conditionBytes (primaryOf (x .first))) (b .len)
       → Wrote t rest final pre out′ (s .and) b
   expects-wrote out′ b same w =
@@ -139,7 +139,7 @@ module _ (t : List ℕ) (rest : List Token) (final : Condition) (pre out out′ 
   state-not :
       (n : ℕ) → Appends out out′ (s .len) (64 ∷ []) n → View t rest final pre out s kNot
       → State t rest final pre out′ (record { next = s .next + 1; and = s .and; len = n })
-  unfolding primaryOf conditionBytes ascii
+  unfolding primaryOf conditionBytes
   state-not n a (atNot x y z) =
       let fits : s .len + length (conditionBytes (primaryOf (negatable (not y)))) ≤ length out = rw z at (expects-room x) in
       let put = a (opened x) (x .holds) (omega arith) in
@@ -159,10 +159,11 @@ module _ (t : List ℕ) (rest : List Token) (final : Condition) (pre out out′ 
   state-parens :
       (b : Block) → Conditions t (s .next + 1) (s .len) out out′ b → View t rest final pre out s kParens
       → Wrote t rest final pre out′ (s .and) b
-  unfolding primaryOf ascii
+  unfolding primaryOf
   state-parens b a (atParens x d z) =
       let room : s .len + length (conditionBytes (primaryOf (negatable (parens d)))) ≤ length out = rw z at (expects-room x) in
-      let w = a d (tail (x .later) (mark RPAREN ∷ rest)) (opened x) (words-on t _ (s .next) 1 (rw z at (x .written))) (x .holds) room in
+      let later = tailTokens (x .later) (mark RPAREN ∷ rest) in
+      let w = a d later (opened x) (words-on t _ (s .next) 1 (rw z at (x .written))) (x .holds) room in
       expects-wrote x out′ b same (w .0, rw z (w .1))
 
   state-operand :
@@ -170,7 +171,7 @@ module _ (t : List ℕ) (rest : List Token) (final : Condition) (pre out out′ 
       → View t rest final pre out s kOperand → Wrote t rest final pre out′ (s .and) b
   state-operand b e g a (atOperand x) =
       expects-wrote x out′ b same
-      (a (x .first) (tail (x .later) (mark RPAREN ∷ rest)) (opened x) (x .written) e g (x .holds) (expects-room x))
+      (a (x .first) (tailTokens (x .later) (mark RPAREN ∷ rest)) (opened x) (x .written) e g (x .holds) (expects-room x))
 
 -- ---- the invariant
 

@@ -12,44 +12,55 @@ use Rattle.tsparql.specs.Writing.{conditionBytes}
 use Rattle.grammar.specs.Tokens.{Token, mark, RPAREN}
 use Rattle.blocks.specs.Blocks.{Holds, Puts}
 use Rattle.words.specs.Words.{words}
-use Rattle.clauses.specs.Tails.{Tail, close, andThen, orThen, tail, orWith, orBytes}
+use Rattle.clauses.specs.Tails.{Tail, close, andThen, orThen, tailTokens, orWith, orBytes}
 use Rattle.clauses.specs.Clauses.{State, Wrote, Connects}
 use Rattle.clauses.specs.declared.Block.{Block}
 use Rattle.clauses.specs.declared.Clause.{Clause}
 use Rattle.words.proofs.WordLaws.{word-first, words-on, word-inside}
 use Rattle.clauses.proofs.TailLaws.{or-bytes, operators, ends-least}
 
--- a word is to come
-tail-inside : (t : List ℕ) (i : ℕ) (r : Tail) (rest : List Token) → drop i t ≡ words (tail r (mark RPAREN ∷ rest)) → i < length t
-tail-inside t i close rest e = word-inside t _ i _ e
-tail-inside t i (andThen p r) rest e = word-inside t _ i _ e
-tail-inside t i (orThen p r) rest e = word-inside t _ i _ e
+-- the first word of a tail and a parenthesis
+abbrev tailWord : Tail → ℕ
+tailWord close = 41
+tailWord (andThen p r) = 38
+tailWord (orThen p r) = 124
 
--- there is room for a byte for each operator to come
-wrote-room :
-    {t : List ℕ} {rest : List Token} {final : Condition} {pre out : List ℕ} {and : ℕ} {b : Block} (w : Wrote t rest final pre out and b)
-    → b .len + operators (w .later) ≤ length out
-wrote-room {t} {rest} {final} {pre} w =
-    let or = orBytes (w .before) in
-    let bytes = conditionBytes (w .conjunct) in
-    let means = ap (λ (c : Condition). length (conditionBytes c)) (w .means) in
-    let least = ends-least (w .later) (w .before) (w .conjunct) in
-    omega (arith, w .holds .size, w .room, length-append pre (or ++ bytes), length-append or bytes)
+tail-first :
+    (t : List ℕ) (i : ℕ) (r : Tail) (rest : List Token) → drop i t ≡ words (tailTokens r (mark RPAREN ∷ rest))
+    → (getD t i 0 ≡ tailWord r) × (i < length t)
+unfolding ascii
+tail-first t i close rest e = (word-first t _ i _ e, word-inside t _ i _ e)
+tail-first t i (andThen p r) rest e = (word-first t _ i _ e, word-inside t _ i _ e)
+tail-first t i (orThen p r) rest e = (word-first t _ i _ e, word-inside t _ i _ e)
+
+module _ {t : List ℕ} {rest : List Token} {final : Condition} {pre out : List ℕ} {and : ℕ} {b : Block}
+    (w : Wrote t rest final pre out and b) where
+  -- the word behind the primary
+  wrote-next : (r : Tail) → w .later ≡ r → getD t (b .next) 0 ≡ tailWord r
+  wrote-next r z = tail-first t (b .next) r rest (rw z at (w .written)) .0
+
+  -- there is room for a byte for each operator to come
+  wrote-room : b .len + operators (w .later) ≤ length out
+  wrote-room =
+      let or = orBytes (w .before) in
+      let bytes = conditionBytes (w .conjunct) in
+      let means = ap (λ (c : Condition). length (conditionBytes c)) (w .means) in
+      let least = ends-least (w .later) (w .before) (w .conjunct) in
+      omega (arith, w .holds .size, w .room, length-append pre (or ++ bytes), length-append or bytes)
 
 pub connect-none :
     (t out : List ℕ) (from and : ℕ) (b : Block) (r : Clause) → length t ≤ b .next → Connects t from out out and b r
-connect-none t out from and b r l rest final pre f w = absurd (omega (arith, tail-inside t (b .next) (w .later) rest (w .written)))
+connect-none t out from and b r l rest final pre f w = absurd (omega (arith, tail-first t (b .next) (w .later) rest (w .written) .1))
 
 module _ (t out out′ : List ℕ) (from and n : ℕ) (b : Block) where
   pub connect-and :
       getD t (b .next) 0 ≡ 38 → Puts out out′ and (b .len) 80 n → length out′ ≡ length out
       → Connects t from out out′ and b (record { next = b .next + 1; and = and; len = n })
-  unfolding ascii
   connect-and e a same rest final pre f w = go (w .later) refl
     where
       go : (r : Tail) → w .later ≡ r → State t rest final pre out′ (record { next = b .next + 1; and = and; len = n })
-      go close z = absurd (omega (arith, word-first t _ (b .next) _ (rw z at (w .written))))
-      go (orThen p r) z = absurd (omega (arith, word-first t _ (b .next) _ (rw z at (w .written))))
+      go close z = absurd (omega (arith, wrote-next w close z))
+      go (orThen p r) z = absurd (omega (arith, wrote-next w (orThen p r) z))
       go (andThen p r) z =
           let or = orBytes (w .before) in
           let held : Holds out ((pre ++ or) ++ conditionBytes (w .conjunct)) (b .len) = rw append-assoc (w .holds) in
@@ -71,12 +82,11 @@ module _ (t out out′ : List ℕ) (from and n : ℕ) (b : Block) where
   pub connect-or :
       getD t (b .next) 0 ≡ 124 → Puts out out′ from (b .len) 96 n → length out′ ≡ length out
       → Connects t from out out′ and b (record { next = b .next + 1; and = n; len = n })
-  unfolding ascii
   connect-or e a same rest final pre f w = go (w .later) refl
     where
       go : (r : Tail) → w .later ≡ r → State t rest final pre out′ (record { next = b .next + 1; and = n; len = n })
-      go close z = absurd (omega (arith, word-first t _ (b .next) _ (rw z at (w .written))))
-      go (andThen p r) z = absurd (omega (arith, word-first t _ (b .next) _ (rw z at (w .written))))
+      go close z = absurd (omega (arith, wrote-next w close z))
+      go (andThen p r) z = absurd (omega (arith, wrote-next w (andThen p r) z))
       go (orThen p r) z =
           let d = orWith (w .before) (w .conjunct) in
           let put = a pre (conditionBytes d) (sym f) (rw or-bytes at (w .holds)) (omega (arith, wrote-room w, ap operators z)) in
@@ -101,5 +111,5 @@ connect-end t out from and b e g rest final pre f w = go (w .later) refl
   where
     go : (r : Tail) → w .later ≡ r → State t rest final pre out (record { next = b .next; and = and; len = b .len })
     go close z = inr (record { written = rw z at (w .written); holds = rw (or-bytes, rw z at (w .means)) at (w .holds) })
-    go (andThen p r) z = absurd (e (word-first t _ (b .next) _ (rw z at (w .written))))
-    go (orThen p r) z = absurd (g (word-first t _ (b .next) _ (rw z at (w .written))))
+    go (andThen p r) z = absurd (e (wrote-next w (andThen p r) z))
+    go (orThen p r) z = absurd (g (wrote-next w (orThen p r) z))

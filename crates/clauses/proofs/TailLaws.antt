@@ -13,7 +13,7 @@ use Rattle.grammar.specs.Tokens.{Token, mark, OR}
 use Rattle.grammar.specs.Grammar.{Disjunction, conjuncts, either, disjunctionTokens}
 use Rattle.grammar.specs.Grammar.{Conjunction, single, both, conjunctionTokens, Primary, primaryTokens}
 use Rattle.grammar.specs.Meaning.{disjunctionOf, conjunctionOf, primaryOf}
-use Rattle.clauses.specs.Tails.{Tail, close, andThen, orThen, tail, endsAs}
+use Rattle.clauses.specs.Tails.{Tail, close, andThen, orThen, tailTokens, endsAs}
 use Rattle.clauses.specs.Tails.{orWith, andWith, orBytes, andBytes, negations, notBytes}
 
 -- ---- a first primary and a tail
@@ -22,12 +22,12 @@ use Rattle.clauses.specs.Tails.{orWith, andWith, orBytes, andBytes, nega
 pub record Parted (tokens : List Token → List Token) (before : Option Condition) (final : Condition) : Type 0 where
   pub first : Primary
   pub later : Tail
-  pub written : (rest : List Token) → tokens rest ≡ primaryTokens first (tail later rest)
+  pub written : (rest : List Token) → tokens rest ≡ primaryTokens first (tailTokens later rest)
   pub means : endsAs before (primaryOf first) later ≡ final
 
 conjunction-tail :
     (c : Conjunction) (r : Tail) (before : Option Condition)
-    → Parted (λ rest. conjunctionTokens c (tail r rest)) before (endsAs before (conjunctionOf c) r)
+    → Parted (λ rest. conjunctionTokens c (tailTokens r rest)) before (endsAs before (conjunctionOf c) r)
 unfolding conjunctionOf
 conjunction-tail (single p) r before = record { first = p; later = r; written = λ rest. refl; means = refl }
 conjunction-tail (both c p) r before =
@@ -51,7 +51,7 @@ split (either d c) = refl
 
 disjunction-before :
     (d : Disjunction) (r : Tail)
-    → Parted (λ rest. disjunctionTokens d (tail r rest)) none (endsAs (beforeLast d) (conjunctionOf (last d)) r)
+    → Parted (λ rest. disjunctionTokens d (tailTokens r rest)) none (endsAs (beforeLast d) (conjunctionOf (last d)) r)
 unfolding beforeLast last
 disjunction-before (conjuncts c) r = conjunction-tail c r none
 disjunction-before (either d c) r =

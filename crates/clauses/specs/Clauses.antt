@@ -13,7 +13,7 @@ use Rattle.grammar.specs.Grammar.{Disjunction, disjunctionTokens, Primary, prim
 use Rattle.grammar.specs.Meaning.{disjunctionOf, primaryOf}
 use Rattle.blocks.specs.Blocks.{Holds}
 use Rattle.words.specs.Words.{words}
-use Rattle.clauses.specs.Tails.{Tail, tail, andWith, orBytes, andBytes, negations, notBytes, endsAs}
+use Rattle.clauses.specs.Tails.{Tail, tailTokens, andWith, orBytes, andBytes, negations, notBytes, endsAs}
 use Rattle.clauses.specs.declared.Block.{Block}
 use Rattle.clauses.specs.declared.Clause.{Clause}
 
@@ -39,7 +39,7 @@ pub record Expects (t : List ℕ) (rest : List Token) (final : Condition) (pre o
   pub nots : ℕ
   pub first : Primary
   pub later : Tail
-  pub written : drop (s .next) t ≡ words (primaryTokens first (tail later (mark RPAREN ∷ rest)))
+  pub written : drop (s .next) t ≡ words (primaryTokens first (tailTokens later (mark RPAREN ∷ rest)))
   pub means : endsAs before (andWith prior (negations nots (primaryOf first))) later ≡ final
   pub holds : Holds out (pre ++ (orBytes before ++ (andBytes prior ++ notBytes nots))) (s .len)
   pub place : s .and ≡ length pre + length (orBytes before)
@@ -59,7 +59,7 @@ pub record Wrote (t : List ℕ) (rest : List Token) (final : Condition) (pre out
   pub before : Option Condition
   pub conjunct : Condition
   pub later : Tail
-  pub written : drop (b .next) t ≡ words (tail later (mark RPAREN ∷ rest))
+  pub written : drop (b .next) t ≡ words (tailTokens later (mark RPAREN ∷ rest))
   pub means : endsAs before conjunct later ≡ final
   pub holds : Holds out (pre ++ (orBytes before ++ conditionBytes conjunct)) (b .len)
   pub place : and ≡ length pre + length (orBytes before)

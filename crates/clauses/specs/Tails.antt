@@ -17,10 +17,10 @@ pub data Tail : Type 0 where
   orThen : Primary → Tail → Tail
 
 -- its tokens, before others
-abbrev pub tail : Tail → List Token → List Token
-tail close rest = rest
-tail (andThen p r) rest = mark AND ∷ primaryTokens p (tail r rest)
-tail (orThen p r) rest = mark OR ∷ primaryTokens p (tail r rest)
+abbrev pub tailTokens : Tail → List Token → List Token
+tailTokens close rest = rest
+tailTokens (andThen p r) rest = mark AND ∷ primaryTokens p (tailTokens r rest)
+tailTokens (orThen p r) rest = mark OR ∷ primaryTokens p (tailTokens r rest)
 
 -- what stands before `||`, if anything, with what stands behind it
 abbrev pub orWith : Option Condition → Condition → Condition

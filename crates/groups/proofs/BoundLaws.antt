@@ -11,9 +11,8 @@ use Rattle.grammar.specs.Grammar.{plus, minus}
 use Rattle.grammar.specs.Meaning.{Item, aTriple, aGroup, anOptional, aFilter, aProjection, aBound, bounded, valueOf}
 use Rattle.blocks.specs.Blocks.{Holds, Puts}
 use Rattle.words.proofs.WordLaws.{word-at}
-use Rattle.groups.specs.Items.{nextItem}
-use Rattle.groups.specs.Passes.{Thousands, Puts4}
-use Rattle.groups.proofs.Fronts.{Walks, kBound, View, atBound, first-word, view-at, view-over}
+use Rattle.groups.specs.Passes.{BoundOf, Puts4}
+use Rattle.groups.proofs.Fronts.{Walks, kBound, View, atBound, first-word, view-at, view-over, nextItem}
 use Rattle.groups.proofs.Passing.{Made, Turn, itemWord}
 
 pub bounded-nil : (x : Node) → bounded x [] ≡ x
@@ -43,11 +42,11 @@ bounded-least (aBound l u ∷ is) x = let h = bounded-least is (ensureTrust l u 
 
 -- ---- the value of a bound
 
-pub thousands-plus : (w : ℕ) → w < 4194304 → Thousands w (1000 + w % 1048576 % 1001)
+pub thousands-plus : (w : ℕ) → w < 4194304 → BoundOf w (1000 + w % 1048576 % 1001)
 thousands-plus w h (plus n x) e = omega arith
 thousands-plus w h (minus n x y) e = absurd (omega arith)
 
-pub thousands-minus : (w : ℕ) → 4194304 ≤ w → Thousands w (1000 - w % 1048576 % 1001)
+pub thousands-minus : (w : ℕ) → 4194304 ≤ w → BoundOf w (1000 - w % 1048576 % 1001)
 thousands-minus w h (plus n x) e = absurd (omega arith)
 thousands-minus w h (minus n x y) e = omega arith
 
@@ -72,7 +71,7 @@ puts-four l l₁ l₂ l₃ l′ i e x a b c r s₁ s₂ s₃ p₁ p₂ p₃ p₄
 
 pub bound-turn :
     (t : List ℕ) (from : ℕ) (out out′ : List ℕ) (i j n n′ w w′ a b : ℕ) → getD t i 0 ≡ 69 → w ≡ getD t (i + 3) 0 → w′ ≡ getD t (i + 5) 0
-    → Thousands w a → Thousands w′ b → Puts4 out out′ from n (4096 * a + b) n′ → drop j t ≡ nextItem (drop i t)
+    → BoundOf w a → BoundOf w′ b → Puts4 out out′ from n (4096 * a + b) n′ → drop j t ≡ nextItem (drop i t)
     → Turn Node bounded nodeBytes t from out out′ i j n n′
 unfolding bounded nodeBytes
 bound-turn t from out out′ i j n n′ w w′ a b c x₁ x₂ lower upper put s is rest pre y walks start held room =

@@ -1,7 +1,7 @@
 -- What stands at the front of a body's words, which its first word tells (`view-at`): an item with what it says, a dot, a further group of
 -- a UNION, or the closing brace; and that `nextItem` goes over it (`view-over`). Assumes nothing.
 use mathlib.Core.Path.{_≡_, refl, sym, ap, _∙_, subst}
-use mathlib.Core.Bool.{Bool, true, false, cond}
+use mathlib.Core.Bool.{Bool, true, false, cond, _||_}
 use mathlib.Core.List.{List, [], _∷_}
 use Prim.Native.Nat.{ℕ, _+_, _<_}
 use native.Mathlib.Omega.{arith}
@@ -19,8 +19,9 @@ use Rattle.grammar.specs.Grammar.{Unions, none, andUnion, unionsTokens}
 use Rattle.grammar.specs.Meaning.{Item, aTriple, aGroup, aFilter, aProjection, aBound, items, itemOf, united, groupNode, optionalItem}
 use Rattle.grammar.specs.Meaning.{patternOf, valueOf, disjunctionOf}
 use Rattle.words.specs.Words.{words, slotWord, thousandthsWord}
+use Rattle.words.specs.Links.{behindOf}
 use Rattle.words.proofs.Balance.{slot-large, behind-condition, behind-body}
-use Rattle.groups.specs.Items.{dotted, Follows, Items, nextItem}
+use Rattle.groups.specs.Items.{dotted, Follows, Items}
 
 -- the words ws are those of a body with the items is, where further groups of a UNION, which have no item of their own, may stand before
 pub record Walks (ws : List ℕ) (is : List Item) (rest : List Token) : Type 0 where
@@ -207,6 +208,18 @@ items-first ws is rest i e = go (f .dot) (sym (ap (λ (l : List ℕ). getD l 0 0
     go false q = body-first (f .tree) rest q
 
 -- ---- over it
+
+-- what stands behind the item at the front of ws, of which w is the first word
+abbrev pub nextBy : ℕ → List ℕ → List ℕ
+nextBy w ws =
+    cond (leb 256 w || eqb w 84) (drop 3 ws)
+    (cond (eqb w 69) (drop 7 ws)
+    (cond (eqb w 123) (behindOf 1 (drop 1 ws))
+    (cond (eqb w 70 || (eqb w 79 || eqb w 85)) (behindOf 1 (drop 2 ws)) (drop 1 ws))))
+
+-- the same by the words alone
+abbrev pub nextItem : List ℕ → List ℕ
+nextItem ws = nextBy (getD ws 0 0) ws
 
 next-triple : (x : Slot) (ws : List ℕ) → nextItem (slotWord x ∷ ws) ≡ drop 2 ws
 next-triple x ws = rw (le-leb 256 (slotWord x) (slot-large x))

@@ -11,9 +11,8 @@ use Rattle.grammar.specs.Grammar.{Body}
 use Rattle.grammar.specs.Meaning.{Item, aTriple, aGroup, anOptional, aFilter, aProjection, aBound, items}
 use Rattle.blocks.specs.Blocks.{Holds}
 use Rattle.words.proofs.WordLaws.{word-first}
-use Rattle.groups.specs.Items.{nextItem}
 use Rattle.groups.specs.Passes.{BodyAt, Makes}
-use Rattle.groups.proofs.Fronts.{Walks, Kind, kEnd, View, left}
+use Rattle.groups.proofs.Fronts.{Walks, Kind, kEnd, View, left, nextItem}
 use Rattle.groups.proofs.Fronts.{atEnd, atDot, atUnion, atTriple, atGroup, atOptional, atFilter, atProjection, atBound}
 use Rattle.groups.proofs.Fronts.{items-walks, body-items, first-word, view-at, view-inside, view-over}
 

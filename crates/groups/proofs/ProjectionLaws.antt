@@ -10,8 +10,7 @@ use Rattle.tsparql.specs.Writing.{nodeBytes}
 use Rattle.grammar.specs.Meaning.{Item, aTriple, aGroup, anOptional, aFilter, aProjection, aBound, projected}
 use Rattle.blocks.specs.Blocks.{Holds, Puts}
 use Rattle.words.proofs.WordLaws.{word-at}
-use Rattle.groups.specs.Items.{nextItem}
-use Rattle.groups.proofs.Fronts.{Walks, kProjection, View, atProjection, first-word, view-at, view-over}
+use Rattle.groups.proofs.Fronts.{Walks, kProjection, View, atProjection, first-word, view-at, view-over, nextItem}
 use Rattle.groups.proofs.Passing.{Made, Turn, itemWord}
 
 pub projected-nil : (x : Node) → projected x [] ≡ x

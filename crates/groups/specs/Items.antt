@@ -3,14 +3,14 @@
 use mathlib.Core.Path.{_≡_}
 use mathlib.Core.Bool.{Bool, true, false, cond, _||_}
 use mathlib.Core.List.{List, _∷_}
-use Prim.Native.Nat.{ℕ}
+use Prim.Native.Nat.{ℕ, _+_}
 use lib.Dec.{eqb, leb}
-use lib.ListN.{drop, getD}
+use lib.ListN.{getD}
 use Rattle.grammar.specs.Tokens.{Token, mark, DOT}
 use Rattle.grammar.specs.Grammar.{Body, bodyTokens}
 use Rattle.grammar.specs.Meaning.{Item, items}
 use Rattle.words.specs.Words.{words}
-use Rattle.words.specs.Links.{behindOf}
+use Rattle.words.specs.Links.{closing}
 
 -- a dot may stand before
 abbrev pub dotted : Bool → List Token → List Token
@@ -31,15 +31,15 @@ pub record Items (ws : List ℕ) (is : List Item) (rest : List Token) : Type 0 w
   pub written : ws ≡ words tail
   pub follows : Follows tail is rest
 
--- What stands behind the item at the front of ws, of which w is the first word: a triple has three words, TRUST AS too, ENSURE TRUST
--- seven; a group, a filter, an OPTIONAL and a further group of a UNION end where their bracket closes; a dot stands by itself.
-abbrev pub nextBy : ℕ → List ℕ → List ℕ
-nextBy w ws =
-    cond (leb 256 w || eqb w 84) (drop 3 ws)
-    (cond (eqb w 69) (drop 7 ws)
-    (cond (eqb w 123) (behindOf 1 (drop 1 ws))
-    (cond (eqb w 70 || (eqb w 79 || eqb w 85)) (behindOf 1 (drop 2 ws)) (drop 1 ws))))
+-- Where the item behind the one at i begins, of which w is the first word: a triple has three words, TRUST AS too, ENSURE TRUST seven; a
+-- group, a filter, an OPTIONAL and a further group of a UNION end where their bracket closes; a dot stands by itself.
+abbrev pub placeBy : ℕ → List ℕ → ℕ → ℕ
+placeBy w t i =
+    cond (leb 256 w || eqb w 84) (i + 3)
+    (cond (eqb w 69) (i + 7)
+    (cond (eqb w 123) (closing t (i + 1))
+    (cond (eqb w 70 || (eqb w 79 || eqb w 85)) (closing t (i + 2)) (i + 1))))
 
 -- the same by the words alone
-abbrev pub nextItem : List ℕ → List ℕ
-nextItem ws = nextBy (getD ws 0 0) ws
+unfoldable pub nextPlace : List ℕ → ℕ → ℕ
+nextPlace t i = placeBy (getD t i 0) t i

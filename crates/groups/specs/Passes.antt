@@ -75,8 +75,8 @@ Splits t at from out out′ n r =
 -- ---- bounds
 
 -- the word of a bound, and the bound plus 1000
-abbrev pub Thousands : ℕ → ℕ → Type 0
-Thousands w r = (l : Thousandths) → w ≡ thousandthsWord l → r ≡ valueOf l
+abbrev pub BoundOf : ℕ → ℕ → Type 0
+BoundOf w r = (l : Thousandths) → w ≡ thousandthsWord l → r ≡ valueOf l
 
 -- the byte of ensure trust and three more stand in front of the last block, which began at i
 abbrev pub Puts4 : List ℕ → List ℕ → ℕ → ℕ → ℕ → ℕ → Type 0

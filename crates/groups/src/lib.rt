@@ -1,13 +1,13 @@
 // The passes over a group's items: its projections, its bounds and its filters around what is joined in it.
 ghost use mathlib.Core.Path.{_≡_};
 ghost use Prim.Native.Nat.{_≤_, _<_};
-ghost use lib.ListN.{length, drop};
+ghost use lib.ListN.{length};
 ghost use Rattle.tsparql.specs.Query.{Node};
 ghost use Rattle.tsparql.specs.Writing.{nodeBytes};
 ghost use Rattle.grammar.specs.Meaning.{projected, bounded};
 ghost use Rattle.words.specs.Links.{Linked};
-ghost use Rattle.groups.specs.Items.{nextItem};
-ghost use Rattle.groups.specs.Passes.{Makes, Conjoins, Unfilters, Filters, Splits, Thousands, Puts4};
+ghost use Rattle.groups.specs.Items.{nextPlace};
+ghost use Rattle.groups.specs.Passes.{Makes, Conjoins, Unfilters, Filters, Splits, BoundOf, Puts4};
 use blocks::append;
 use blocks::exchange;
 use blocks::put;
@@ -33,7 +33,7 @@ pub struct Halves {
 // From one item of a group to the next.
 pub fn step(t: &[u32], i: usize, ends: &[u16]) -> usize
     requires { ⌜ (i < length (now t)) × Linked (now t) (now ends) ⌝ }
-    ensures { λ r. ⌜ (i < r) × (drop r (now (t .entry)) ≡ nextItem (drop i (now (t .entry)))) ⌝ }
+    ensures { λ r. ⌜ r ≡ nextPlace (now (t .entry)) i ⌝ }
 {
     let w = t[i];
     if FIRST_VARIABLE <= w {
@@ -87,7 +87,7 @@ fn projections(t: &[u32], at: usize, out: &mut [u8], from: usize, len: usize, en
 
 // A bound from its word, plus 1000.
 fn thousandths(w: u32) -> u32
-    ensures { λ r. ⌜ (r ≤ 2000) × Thousands w r ⌝ }
+    ensures { λ r. ⌜ (r ≤ 2000) × BoundOf w r ⌝ }
 {
     if w < FIRST_NEGATIVE {
         1000 + w % 1048576 % 1001

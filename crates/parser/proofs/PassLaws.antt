@@ -12,8 +12,9 @@ use Rattle.grammar.specs.Tokens.{Token}
 use Rattle.grammar.specs.Meaning.{Item, joined, gathered}
 use Rattle.words.specs.Words.{words}
 use Rattle.words.proofs.Balance.{slot-large, behind-condition}
-use Rattle.groups.specs.Items.{Follows, Items, nextItem}
-use Rattle.groups.proofs.Fronts.{Kind, View, left, items-walks, first-word, view-at}
+use Rattle.groups.specs.Items.{Follows, Items, nextPlace}
+use Rattle.groups.proofs.Fronts.{Kind, View, left, items-walks, first-word, view-at, nextItem}
+use Rattle.groups.proofs.StepLaws.{next-forward, next-place}
 use Rattle.groups.proofs.Fronts.{atEnd, atDot, atUnion, atTriple, atGroup, atOptional, atFilter, atProjection, atBound}
 use Rattle.parser.specs.Stages.{bodyPlace, Triples, Passes}
 use Rattle.parser.specs.declared.Stage.{Stage}
@@ -76,9 +77,9 @@ plain w i h n m =
     }
 
 pub pass-other :
-    (t out : List ℕ) (from j : ℕ) (g : Stage) → getD t (g .next) 0 < 256 → (g .next < j) × (drop j t ≡ nextItem (drop (g .next) t))
+    (t out : List ℕ) (from j : ℕ) (g : Stage) → getD t (g .next) 0 < 256 → j ≡ nextPlace t (g .next)
     → Passes t from out out g (record { next = j; mid = g .mid; len = g .len; run = g .run })
-pass-other t out from j g small steps rest pre final n m s =
+pass-other t out from j g small e rest pre final n m s =
     let i = g .next in
     let p = plain (getD t i 0) i small n m in
     let idle = stage-items t rest final from pre out g s (p .noUnion) in
@@ -87,7 +88,7 @@ pass-other t out from j g small steps rest pre final n m s =
     let held = stage-holds t rest final from pre out g s (idle .1) in
     let inside = stage-inside t rest final from pre out g s in
     let room = s .room in
-    let forward = steps .0 in
+    let forward = next-forward t i j e in
     let J = nodeBytes (joined (s .left) (patternSet (s .run))) in
     record {
       start = s .start;
@@ -95,7 +96,7 @@ pass-other t out from j g small steps rest pre final n m s =
       run = s .run;
       pending = none;
       items = o .later;
-      coming = subst (λ (ws : List ℕ). Items ws (o .later) rest) (sym (steps .1)) (o .items);
+      coming = subst (λ (ws : List ℕ). Items ws (o .later) rest) (sym (next-place t i j e)) (o .items);
       yields = o .yields ∙ s .yields;
       closed = tt;
       holds = none-waits out pre J (g .len) held;

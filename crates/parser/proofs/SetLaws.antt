@@ -15,10 +15,10 @@ use Rattle.tsparql.specs.Writing.{nodeBytes, conditionBytes, patternBytes, thre
 use Rattle.grammar.specs.Grammar.{term, variable}
 use Rattle.grammar.specs.Meaning.{isEmptySet, joined, slotOf, patternOf}
 use Rattle.blocks.specs.Blocks.{Holds, Puts, Exchanges, Appends}
-use Rattle.blocks.proofs.Holding.{holds-split, split-holds, holds-within, appends-more}
+use Rattle.blocks.proofs.Holding.{holds-split, split-holds, appends-more}
 use Rattle.words.proofs.WordLaws.{word-at, word-first}
 use Rattle.clauses.proofs.ClauseLaws.{term-bytes}
-use Rattle.parser.specs.Sets.{Unites, Joins, before, Begins, Marks, Slots, Adds}
+use Rattle.parser.specs.Sets.{Unites, Joins, before, Begins, Slots, Adds}
 
 -- ---- lengths
 
@@ -215,8 +215,10 @@ begins-full out out₁ out₂ from n m r l q same a b pre x e g room = go (isEmp
 
 -- ---- a triple
 
-pub marks : (out : List ℕ) (h v : ℕ) → h < length out → Marks out (set out h v) h v
-marks out h v l pre rest a n e g =
+-- the byte at h
+holds-set :
+    (out pre rest : List ℕ) (h v a n : ℕ) → length pre ≡ h → Holds out (pre ++ (a ∷ rest)) n → Holds (set out h v) (pre ++ (v ∷ rest)) n
+holds-set out pre rest h v a n e g =
     let s = g .size in
     let D = drop n out in
     let so : set out h v ≡ (pre ++ (v ∷ rest)) ++ D =
@@ -224,11 +226,6 @@ marks out h v l pre rest a n e g =
     ∙ set-at pre a (rest ++ D) v h e ∙ sym (append-assoc pre (v ∷ rest) D) in
     let size : n ≡ length (pre ++ (v ∷ rest)) = omega (arith, length-append pre (a ∷ rest), length-append pre (v ∷ rest)) in
     record { size = size; front = ap (λ (x : List ℕ). take n x) so ∙ take-at (pre ++ (v ∷ rest)) D n (sym size) }
-
-pub marks-none : (out : List ℕ) (h v : ℕ) → length out ≤ h → Marks out out h v
-marks-none out h v l pre rest a n e g =
-    let s = g .size in
-    absurd (omega (arith, length-append pre (a ∷ rest), holds-within out _ n g))
 
 pub slots-variable :
     (t : List ℕ) (i : ℕ) (out out′ : List ℕ) (n r w : ℕ) → w ≡ getD t i 0 → w < 2097152
@@ -266,7 +263,7 @@ set-more ps p =
 
 pub adds :
     (t : List ℕ) (i : ℕ) (out out₀ out₁ out₂ out₃ : List ℕ) (n run a b r : ℕ) → length out₀ ≡ length out → length out₁ ≡ length out₀
-    → length out₂ ≡ length out₁ → 9 * run < n → Marks out out₀ (n - 1 - 9 * run) (run + 1) → Slots t i out₀ out₁ n a
+    → length out₂ ≡ length out₁ → 9 * run < n → out₀ ≡ set out (n - 1 - 9 * run) (run + 1) → Slots t i out₀ out₁ n a
     → Slots t (i + 1) out₁ out₂ a b → Slots t (i + 2) out₂ out₃ b r
     → Adds t i out out₃ n run r
 unfolding nodeBytes patternBytes
@@ -275,7 +272,9 @@ adds t i out out₀ out₁ out₂ out₃ n run a b r s₀ s₁ s₂ z m p q w pr
     let k = patterns-size ps in
     let P = concatMap patternBytes ps in
     let B = patternBytes (patternOf x y v) in
-    let h₀ = m pre P (0 + length ps) n (omega (arith, length-append pre ((0 + length ps) ∷ P))) g in
+    let place : length pre ≡ n - 1 - 9 * run = omega (arith, length-append pre ((0 + length ps) ∷ P)) in
+    let count = holds-set out pre P (n - 1 - 9 * run) (run + 1) (0 + length ps) n place g in
+    let h₀ = subst (λ (l : List ℕ). Holds l (pre ++ ((run + 1) ∷ P)) n) (sym m) count in
     let X = threeBytes (slotNumber (slotOf x)) in
     let Y = threeBytes (slotNumber (slotOf y)) in
     let Z = threeBytes (slotNumber (slotOf v)) in

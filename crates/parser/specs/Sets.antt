@@ -48,11 +48,6 @@ Begins out out′ from n r =
 
 -- ---- triples
 
--- the byte at h is v
-abbrev pub Marks : List ℕ → List ℕ → ℕ → ℕ → Type 0
-Marks out out′ h v =
-    (pre rest : List ℕ) (a n : ℕ) → length pre ≡ h → Holds out (pre ++ (a ∷ rest)) n → Holds out′ (pre ++ (v ∷ rest)) n
-
 -- the bytes of the slot whose word stands at i
 abbrev pub Slots : List ℕ → ℕ → List ℕ → List ℕ → ℕ → ℕ → Type 0
 Slots t i out out′ n r = (x : Slot) → getD t i 0 ≡ slotWord x → Appends out out′ n (threeBytes (slotNumber (slotOf x))) r

@@ -5,9 +5,9 @@ ghost use mathlib.Core.Bool.{_||_};
 ghost use mathlib.Core.Path.{_≡_};
 ghost use Prim.Native.Nat.{_≤_, _<_};
 ghost use lib.Dec.{eqb, leb};
-ghost use lib.ListN.{length, getD};
+ghost use lib.ListN.{length, getD, set};
 ghost use Rattle.words.specs.Links.{Linked};
-ghost use Rattle.parser.specs.Sets.{Unites, Joins, Begins, Marks, Slots, Adds};
+ghost use Rattle.parser.specs.Sets.{Unites, Joins, Begins, Slots, Adds};
 ghost use Rattle.parser.specs.Stages.{bodyPlace, Triples, Passes, Closes, Gathers};
 use blocks::append;
 use blocks::append3;
@@ -75,7 +75,7 @@ fn begin(out: &mut [u8], from: usize, n: usize) -> usize
 
 // The byte v at a place.
 fn mark(out: &mut [u8], h: usize, v: u8)
-    ensures { λ _. ⌜ Marks (now (out .entry)) (now (out .exit)) h v ⌝ }
+    ensures { λ _. ⌜ now (out .exit) ≡ set (now (out .entry)) h v ⌝ }
 {
     if h < out.len() {
         out[h] = v;

@@ -18,9 +18,3 @@ words-on t ws i j e = sym (drop-drop j i t) ∙ ap (λ (l : List ℕ). drop j l)
 
 pub word-inside : (t ws : List ℕ) (i w : ℕ) → drop i t ≡ w ∷ ws → i < length t
 word-inside t ws i w e = omega (arith, length-drop i t, ap length e)
-
-pub heads : (a b : ℕ) (xs ys : List ℕ) → a ∷ xs ≡ b ∷ ys → a ≡ b
-heads a b xs ys e = cc
-
-pub tails : (a b : ℕ) (xs ys : List ℕ) → a ∷ xs ≡ b ∷ ys → xs ≡ ys
-tails a b xs ys e = cc

@@ -2,7 +2,7 @@
 use mathlib.Core.Path.{_≡_}
 use mathlib.Core.Bool.{Bool, cond, _||_}
 use mathlib.Core.List.{List, [], _∷_}
-use Prim.Native.Nat.{ℕ, zero, suc, _≤_, _<_}
+use Prim.Native.Nat.{ℕ, zero, suc, _+_, _-_, _≤_, _<_}
 use lib.Dec.{eqb}
 use lib.ListN.{length, drop, getD}
 
@@ -20,17 +20,20 @@ behindOf d [] = []
 behindOf (zero) (w ∷ ws) = w ∷ ws
 behindOf (suc d) (w ∷ ws) = cond (isClosing w) (behindOf d ws) (cond (isOpening w) (behindOf (suc (suc d)) ws) (behindOf (suc d) ws))
 
--- e is the place behind the bracket that is open at i
-pub record ClosedAt (t : List ℕ) (i e : ℕ) : Type 0 where
-  pub from : i ≤ e
-  pub to : e ≤ length t
-  pub so : drop e t ≡ behindOf 1 (drop i t)
+-- the place behind the bracket that is open at i: as far on as fewer words are left; the end where none closes it
+unfoldable pub closing : List ℕ → ℕ → ℕ
+closing t i = i + (length (drop i t) - length (behindOf 1 (drop i t)))
 
 -- ends has that place for every place from i on
 abbrev pub LinkedFrom : List ℕ → List ℕ → ℕ → Type 0
-LinkedFrom t ends i = (j : ℕ) → i ≤ j → j ≤ length t → ClosedAt t j (getD ends j 0)
+LinkedFrom t ends i = (j : ℕ) → i ≤ j → j ≤ length t → getD ends j 0 ≡ closing t j
 
 -- ends has it for every place
 pub record Linked (t ends : List ℕ) : Type 0 where
   pub within : length t < length ends
   pub links : LinkedFrom t ends 0
+
+-- and behind them what it had before
+pub record Links (t before ends : List ℕ) : Type 0 where
+  pub linked : Linked t ends
+  pub kept : (j : ℕ) → length t < j → getD ends j 0 ≡ getD before j 0

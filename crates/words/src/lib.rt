@@ -1,8 +1,8 @@
 // The tokens of a text as words, and where its brackets close. What an array of ends holds behind the last word is free.
 ghost use mathlib.Core.Path.{_≡_};
 ghost use Prim.Native.Nat.{_+_, _≤_, _<_};
-ghost use lib.ListN.{length, drop, getD};
-ghost use Rattle.words.specs.Links.{isOpening, isClosing, behindOf, ClosedAt, LinkedFrom, Linked};
+ghost use lib.ListN.{length, getD};
+ghost use Rattle.words.specs.Links.{isOpening, isClosing, closing, LinkedFrom, Linked, Links};
 
 // The word of a fixed token is its first byte.
 pub const LBRACE: u32 = 123;
@@ -69,7 +69,7 @@ fn closes(w: u32) -> bool
 fn end_of(t: &[u32], ends: &[u16], i: usize) -> u16
     requires { ⌜ (i < length (now t)) × (length (now t) ≤ 65535) × (length (now t) < length (now ends)) ⌝ }
     requires { ⌜ LinkedFrom (now t) (now ends) (i + 1) ⌝ }
-    ensures { λ r. ⌜ ClosedAt (now (t .entry)) i r ⌝ }
+    ensures { λ r. ⌜ r ≡ closing (now (t .entry)) i ⌝ }
 {
     let w = t[i];
     if closes(w) {
@@ -85,7 +85,7 @@ fn end_of(t: &[u32], ends: &[u16], i: usize) -> u16
 // The same for every place, from the last to the first.
 pub fn link(t: &[u32], ends: &mut [u16])
     requires { ⌜ (length (now t) ≤ 65535) × (length (now t) < length (now ends)) ⌝ }
-    ensures { λ _. ⌜ Linked (now (t .entry)) (now (ends .exit)) ⌝ }
+    ensures { λ _. ⌜ Links (now (t .entry)) (now (ends .entry)) (now (ends .exit)) ⌝ }
 {
     let mut i = t.len();
     ends[i] = i as u16;
@@ -99,7 +99,7 @@ pub fn link(t: &[u32], ends: &mut [u16])
 // The place behind the bracket that is open at a place, up to the end of the words.
 pub fn behind(t: &[u32], at: usize, ends: &[u16]) -> usize
     requires { ⌜ Linked (now t) (now ends) ⌝ }
-    ensures { λ r. ⌜ (at ≤ r) × (drop r (now (t .entry)) ≡ behindOf 1 (drop at (now (t .entry)))) ⌝ }
+    ensures { λ r. ⌜ r ≡ closing (now (t .entry)) at ⌝ }
 {
     if t.len() < at {
         return at;

@@ -1,5 +1,5 @@
--- A byte in front of the empty block. Assumes nothing.
-use Rattle.blocks.proofs.Holding.{appends}
+-- A byte comes in at the end. Assumes nothing.
+use Rattle.blocks.specs.Buffers.{appended}
 use borrow.Author.Needs.{needs}
 use Rattle.blocks.proofs.append.Statement.{statement}
 use Rattle.blocks.proofs.append.Tie as tie
@@ -11,7 +11,8 @@ same-length : tie.Need-same-length
 same-length c = search needs
 
 returns : tie.Need-returns
-returns c = appends _ _ _ _ _ (c .before .before .put .ensures)
+unfolding appended
+returns c = c .before .before .put .ensures
 
 pub append-spec : {M : Type 1} → statement M
 append-spec = tie.close (tie.spec put-requires same-length returns)

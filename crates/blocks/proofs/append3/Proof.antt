@@ -1,5 +1,7 @@
 -- Three bytes, one after the other. Assumes nothing.
-use Rattle.blocks.proofs.Holding.{appends-more}
+use mathlib.Core.Path.{ap, _∙_}
+use mathlib.Core.List.{[], _∷_}
+use Rattle.blocks.specs.Buffers.{Buffer, appended}
 use borrow.Author.Needs.{needs}
 use Rattle.blocks.proofs.append3.Statement.{statement}
 use Rattle.blocks.proofs.append3.Tie as tie
@@ -17,12 +19,16 @@ same-length : tie.Need-same-length
 same-length c = search needs
 
 returns : tie.Need-returns
+unfolding appended
 returns c =
     let third = c .before .before .append3 in
     let second = c .before .before .before .before .before .before .append2 in
-    let first = c .before .before .before .before .before .before .before .before .before .before .append in
-    appends-more _ _ _ _ _ _ _ _ (first .kept .0) (first .ensures)
-    (appends-more _ _ _ _ _ _ _ _ (second .kept .0) (second .ensures) (third .ensures))
+    let before = c .before .before .before .before .before .before .before .before .before .before in
+    let first = before .append in
+    let a = before .before .before .before .args in
+    third .ensures
+    ∙ ap (λ (x : Buffer). appended x (a .c ∷ [])) (second .ensures)
+    ∙ ap (λ (x : Buffer). appended x (a .b ∷ a .c ∷ [])) (first .ensures)
 
 pub append3-spec : {M : Type 1} → statement M
 append3-spec =

@@ -1,18 +1,20 @@
--- By what the three reversals leave of the two blocks (`exchanges`). Assumes nothing.
+-- By what the three reversals leave of the two blocks (`exchange-reversals`). Assumes nothing.
 use mathlib.Core.Logic.{inl, inr}
 use borrow.Author.Needs.{needs}
-use Rattle.blocks.proofs.Holding.{exchanges, exchanges-none}
+use Rattle.blocks.proofs.Holding.{exchange-reversals, exchange-none}
 use Rattle.blocks.proofs.exchange.Statement.{statement}
 use Rattle.blocks.proofs.exchange.Tie as tie
 
 returns : tie.Need-returns
-returns c = exchanges-none _ _ _ _ _ (inl (c .if1 .taken))
+returns c = exchange-none _ _ _ _ (inl (c .if1 .taken))
 
 returns-2 : tie.Need-returns-2
-returns-2 c = exchanges-none _ _ _ _ _ (inr (inl (c .if2 .taken)))
+returns-2 c = exchange-none _ _ _ _ (inr (inl (c .if2 .taken)))
 
 returns-3 : tie.Need-returns-3
-returns-3 c = exchanges-none _ _ _ _ _ (inr (inr (c .if3 .taken)))
+returns-3 c =
+    let a = c .before .before .before .before .args in
+    exchange-none (a .out .now) (a .at) (a .mid) (a .end) (inr (inr (c .if3 .taken)))
 
 reverse-requires : tie.Need-reverse-requires
 reverse-requires c κs = search needs
@@ -31,7 +33,9 @@ returns-4 c =
     let third = c .before .before in
     let second = third .before .before .before .before in
     let first = second .before .before .before .before in
-    exchanges _ _ _ _ _ _ _ (first .reverse .ensures) (second .reverse2 .ensures) (third .reverse3 .ensures)
+    let a = first .before .before .before .before .before .before .args in
+    exchange-reversals (a .out .now) _ _ _ (a .at) (a .mid) (a .end) (search needs) (search needs) (search needs)
+    (first .reverse .ensures) (second .reverse2 .ensures) (third .reverse3 .ensures)
 
 pub exchange-spec : {M : Type 1} → statement M
 exchange-spec =

@@ -1,7 +1,7 @@
 -- The loop's invariant: what stands from i to the end has moved on by one. Assumes nothing.
 use borrow.Author.Needs.{needs}
 use Prim.Native.Nat.{_-_}
-use Rattle.blocks.proofs.Moving.{Moved, moved-none, moved-one, insert-room, insert-none}
+use Rattle.blocks.proofs.Moving.{Moved, moved-none, moved-one, insert-room, insert-full}
 use Rattle.blocks.proofs.insert.Statement.{statement}
 use Rattle.blocks.proofs.insert.Tie as tie
 
@@ -12,7 +12,7 @@ abbrev μ-loop : tie.MeasureT-loop
 μ-loop out₀ at end v i₀ out i = i
 
 returns : tie.Need-returns Inv-loop μ-loop
-returns c = let a = c .before .args in insert-none (a .out .now) (a .at) (a .end) (a .v) (search needs)
+returns c = let a = c .before .args in insert-full (a .out .now) (a .at) (a .end) (a .v) (search needs)
 
 loop-holds : tie.Need-loop-holds Inv-loop μ-loop
 loop-holds c = moved-none _ _ _ (search needs) (search needs)
@@ -45,7 +45,7 @@ same-length : tie.Need-same-length Inv-loop μ-loop
 same-length c = search needs
 
 returns-2 : tie.Need-returns-2 Inv-loop μ-loop
-returns-2 c = insert-room _ _ _ _ _ _ (search needs) (search needs) (c .before .loop .inv)
+returns-2 c = insert-room _ _ _ _ _ _ (search needs) (search needs) (search needs) (c .before .loop .inv)
 
 pub insert-spec : {M : Type 1} → statement M
 insert-spec =

@@ -1,5 +1,5 @@
--- The measure is the words left. The loop's invariant: whatever condition the words write, the clause is one from which it is written
--- (`Conditioning`). Assumes nothing.
+-- The measure is the words left, and the loop's invariant `Conditioning`. Assumes nothing.
+use Rattle.blocks.proofs.Holding.{appends}
 use native.Mathlib.Omega.{arith}
 use lib.ListN.{length}
 use Rattle.clauses.specs.declared.Block.{Block}
@@ -90,7 +90,7 @@ module _ (t : ℕ) where
       let call = c .before .before in
       let test = call .before .before in
       let turn = test .before .before .before .before .loop in
-      conditioning-not (turn .inv) _ _ (test .if3 .taken) (call .append .kept .0) (call .append .ensures)
+      conditioning-not (turn .inv) _ _ (test .if3 .taken) (call .append .kept .0) (appends _ (call .append .ensures))
 
   add-condition : lts.Need-add-condition (calls t) (at t) condition.Post Inv-loop μ-loop
   add-condition c = search needs

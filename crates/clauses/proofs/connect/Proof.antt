@@ -1,4 +1,5 @@
 -- By the word behind the primary: each return is one law. Assumes nothing.
+use Rattle.blocks.proofs.Holding.{puts}
 use Rattle.clauses.proofs.ConnectLaws.{connect-none, connect-and, connect-or, connect-end}
 use borrow.Author.Needs.{needs}
 use Rattle.clauses.proofs.connect.Statement.{statement}
@@ -27,7 +28,7 @@ returns-2 c =
     let call = c .before .before in
     let test = call .before .before in
     let b = test .before .before .before .before .before .args .b in
-    (search needs, connect-and _ _ _ _ _ _ b (test .if2 .taken) (call .put .ensures) (call .put .kept .0))
+    (search needs, connect-and _ _ _ _ _ _ b (test .if2 .taken) (puts _ (call .put .ensures)) (call .put .kept .0))
 
 put-requires-2 : tie.Need-put-requires-2
 put-requires-2 c κs = search needs
@@ -43,7 +44,7 @@ returns-3 c =
     let call = c .before .before in
     let test = call .before .before in
     let b = test .before .before .before .before .before .before .args .b in
-    (search needs, connect-or _ _ _ _ _ _ b (test .if3 .taken) (call .put2 .ensures) (call .put2 .kept .0))
+    (search needs, connect-or _ _ _ _ _ _ b (test .if3 .taken) (puts _ (call .put2 .ensures)) (call .put2 .kept .0))
 
 returns-4 : tie.Need-returns-4
 returns-4 c =

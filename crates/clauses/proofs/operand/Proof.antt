@@ -1,4 +1,5 @@
 -- By the first three words of the primary: each return is one law. Assumes nothing.
+use Rattle.blocks.proofs.Holding.{appends}
 use Rattle.blocks.proofs.Holding.{appends-more}
 use Rattle.clauses.proofs.ClauseLaws.{operand-bound, operand-less, operand-same, operand-term}
 use borrow.Author.Needs.{needs}
@@ -40,7 +41,7 @@ returns c =
     let a = first .before .before .before .args in (
       search needs,
       operand-bound (a .t .now) _ _ (a .i) _ _ _ _ _ (first .word .ensures) (bound .before .before .word2 .ensures)
-          (bound .before .word3 .ensures) (bound .if1 .taken) (call .append .ensures),
+          (bound .before .word3 .ensures) (bound .if1 .taken) (appends _ (call .append .ensures)),
     )
 
 add-append : tie.Need-add-append
@@ -72,7 +73,8 @@ returns-2 c =
     let bound = less .before in
     let first = bound .before .before .before in
     let a = first .before .before .before .args in
-    let bytes = appends-more _ _ _ _ _ _ _ _ (one .append2 .kept .0) (one .append2 .ensures) (two .append3 .ensures) in (
+    let bytes = appends-more _ _ _ _ _ _ _ _ (one .append2 .kept .0) (appends _ (one .append2 .ensures))
+    (appends _ (two .append3 .ensures)) in (
       search needs,
       operand-less (a .t .now) _ _ (a .i) _ _ _ _ _ (first .word .ensures) (bound .before .before .word2 .ensures)
           (bound .before .word3 .ensures) (bound .if1 .left) (less .if2 .taken) bytes,
@@ -107,7 +109,8 @@ returns-3 c =
     let bound = less .before in
     let first = bound .before .before .before in
     let a = first .before .before .before .args in
-    let bytes = appends-more _ _ _ _ _ _ _ _ (one .append4 .kept .0) (one .append4 .ensures) (two .append5 .ensures) in (
+    let bytes = appends-more _ _ _ _ _ _ _ _ (one .append4 .kept .0) (appends _ (one .append4 .ensures))
+    (appends _ (two .append5 .ensures)) in (
       search needs,
       operand-same (a .t .now) _ _ (a .i) _ _ _ _ _ (first .word .ensures) (bound .before .before .word2 .ensures)
           (bound .before .word3 .ensures) (bound .if1 .left) (less .if2 .left) (one .before .before .if3 .taken) bytes,
@@ -148,7 +151,8 @@ returns-4 c =
     let bound = less .before in
     let first = bound .before .before .before in
     let a = first .before .before .before .args in
-    let bytes = appends-more _ _ _ _ _ _ _ _ (one .append6 .kept .0) (one .append6 .ensures) (two .append32 .ensures) in (
+    let bytes = appends-more _ _ _ _ _ _ _ _ (one .append6 .kept .0) (appends _ (one .append6 .ensures))
+    (appends _ (two .append32 .ensures)) in (
       search needs,
       operand-term (a .t .now) _ _ (a .i) _ _ _ _ _ (first .word .ensures) (bound .before .before .word2 .ensures)
           (bound .before .word3 .ensures) (bound .if1 .left) (less .if2 .left) (search needs) bytes,

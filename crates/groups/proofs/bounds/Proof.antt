@@ -4,6 +4,7 @@ use lib.ListN.{length}
 use Rattle.tsparql.specs.Query.{Node}
 use Rattle.tsparql.specs.Writing.{nodeBytes}
 use Rattle.grammar.specs.Meaning.{bounded}
+use Rattle.groups.proofs.StepLaws.{next-place, next-forward}
 use Rattle.groups.proofs.Passing.{Making, making-first, making-none, making-end, making-on, making-skip, skips}
 use Rattle.groups.proofs.BoundLaws.{bounded-nil, bounded-over, bound-turn}
 use native.Mathlib.Omega.{arith}
@@ -72,7 +73,7 @@ step-requires : tie.Need-step-requires Inv-loop μ-loop
 step-requires c κs = search needs
 
 loop-less : tie.Need-loop-less Inv-loop μ-loop
-loop-less c = search needs
+loop-less c = let more = next-forward _ _ _ (c .step .ensures) in search needs
 
 loop-again : tie.Need-loop-again Inv-loop μ-loop
 loop-again c =
@@ -84,14 +85,14 @@ loop-again c =
     making-on Node bounded nodeBytes (a .t .now) (a .at) (a .from) _ _ _ _ (turn .i) _ _ _ (call .kept .0)
     (bound-turn (a .t .now) (a .from) _ _ (turn .i) _ _ _ _ _ _ _ (lower .before .before .if3 .taken)
     (lower .before .word .ensures) (upper .before .word2 .ensures) (lower .thousandths .ensures .1) (upper .thousandths2 .ensures .1)
-    (call .ensures) (c .step .ensures .1))
+    (call .ensures) (next-place _ _ _ (c .step .ensures)))
     (turn .inv)
 
 step-requires-2 : tie.Need-step-requires-2 Inv-loop μ-loop
 step-requires-2 c κs = search needs
 
 loop-less-2 : tie.Need-loop-less-2 Inv-loop μ-loop
-loop-less-2 c = search needs
+loop-less-2 c = let more = next-forward _ _ _ (c .step2 .ensures) in search needs
 
 loop-again-2 : tie.Need-loop-again-2 Inv-loop μ-loop
 loop-again-2 c =
@@ -99,7 +100,7 @@ loop-again-2 c =
     let t = c .before .before .before .before .before .before .before .before .before .args .t .now in
     let inside = c .before .before .if2 .left in
     let skipped = skips bounded 69 (omega arith) bounded-over t (turn .i) inside (c .before .if3 .left) in
-    making-skip Node bounded nodeBytes t _ _ _ _ _ (turn .i) _ _ inside (c .step2 .ensures .1) skipped (turn .inv)
+    making-skip Node bounded nodeBytes t _ _ _ _ _ (turn .i) _ _ inside (next-place _ _ _ (c .step2 .ensures)) skipped (turn .inv)
 
 pub bounds-spec : {M : Type 1} → statement M
 bounds-spec =

@@ -1,10 +1,12 @@
 -- The loop's invariant: what was made of the block by the items so far. Assumes nothing.
+use Rattle.blocks.proofs.Holding.{puts}
 use Prim.Native.Nat.{_-_}
 use lib.ListN.{length}
 use Rattle.tsparql.specs.Query.{Condition}
 use mathlib.Core.Path.{_∙_}
 use mathlib.Core.Option.{Option}
 use Rattle.groups.specs.Passes.{conjoinFilters, someBytes}
+use Rattle.groups.proofs.StepLaws.{next-place, next-forward}
 use Rattle.groups.proofs.Passing.{Making, making-first, making-none, making-end, making-on, making-skip, skips}
 use Rattle.groups.proofs.FilterLaws.{filters-nil, filters-over, filter-first, filter-more}
 use native.Mathlib.Omega.{arith}
@@ -65,7 +67,7 @@ loop-again c =
     let more = c .before .before .before .before .if4 .taken in
     making-on (Option Condition) conjoinFilters someBytes (a .t .now) (a .at) (a .from) _ _ _ _ (turn .i) _ _ _ (call .kept .0 ∙ same)
     (filter-more (a .t .now) (a .from) _ _ _ (turn .i) _ _ _ (inner .before .before .if3 .taken) more
-    (inner .condition .ensures .1) same (call .ensures))
+    (inner .condition .ensures .1) same (puts _ (call .ensures)))
     (turn .inv)
 
 loop-less-2 : tie.Need-loop-less-2 Inv-loop μ-loop
@@ -85,7 +87,7 @@ step-requires : tie.Need-step-requires Inv-loop μ-loop
 step-requires c κs = search needs
 
 loop-less-3 : tie.Need-loop-less-3 Inv-loop μ-loop
-loop-less-3 c = search needs
+loop-less-3 c = let more = next-forward _ _ _ (c .step .ensures) in search needs
 
 loop-again-3 : tie.Need-loop-again-3 Inv-loop μ-loop
 loop-again-3 c =
@@ -93,7 +95,8 @@ loop-again-3 c =
     let t = c .before .before .before .before .before .before .before .before .before .args .t .now in
     let inside = c .before .before .if2 .left in
     let skipped = skips conjoinFilters 70 (omega arith) filters-over t (turn .i) inside (c .before .if3 .left) in
-    making-skip (Option Condition) conjoinFilters someBytes t _ _ _ _ _ (turn .i) _ _ inside (c .step .ensures .1) skipped (turn .inv)
+    let next = next-place _ _ _ (c .step .ensures) in
+    making-skip (Option Condition) conjoinFilters someBytes t _ _ _ _ _ (turn .i) _ _ inside next skipped (turn .inv)
 
 pub conjunction-spec : {M : Type 1} → statement M
 conjunction-spec =

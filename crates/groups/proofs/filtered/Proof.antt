@@ -1,4 +1,5 @@
 -- By whether a condition was written. Assumes nothing.
+use Rattle.blocks.proofs.Holding.{exchanges, puts}
 use borrow.Author.Needs.{needs}
 use Rattle.groups.proofs.GroupLaws.{filters-none, filters-some}
 use Rattle.groups.proofs.filtered.Statement.{statement}
@@ -38,8 +39,8 @@ returns-2 c =
     let one = two .before .before .before .before in
     let a = one .before .before .before .before .before .args in
     filters-some (a .t .now) (a .at) (a .from) _ _ _ _ _ _ _ _ _ (one .unfiltered .kept .1 .1 .0) (two .conjunction .kept .1 .1 .0)
-    (three .exchange .kept .0) (one .unfiltered .ensures) (two .conjunction .ensures) (search needs) (three .exchange .ensures)
-    (four .put .ensures)
+    (three .exchange .kept .0) (one .unfiltered .ensures) (two .conjunction .ensures) (search needs) (exchanges (three .exchange .ensures))
+    (puts _ (four .put .ensures))
 
 pub filtered-spec : {M : Type 1} → statement M
 filtered-spec =

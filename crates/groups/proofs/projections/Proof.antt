@@ -1,9 +1,11 @@
 -- The loop's invariant: what was made of the block by the items so far. Assumes nothing.
+use Rattle.blocks.proofs.Holding.{puts}
 use Prim.Native.Nat.{_-_}
 use lib.ListN.{length}
 use Rattle.tsparql.specs.Query.{Node}
 use Rattle.tsparql.specs.Writing.{nodeBytes}
 use Rattle.grammar.specs.Meaning.{projected}
+use Rattle.groups.proofs.StepLaws.{next-place, next-forward}
 use Rattle.groups.proofs.Passing.{Making, making-first, making-none, making-end, making-on, making-skip, skips}
 use Rattle.groups.proofs.ProjectionLaws.{projected-nil, projected-over, projection-turn}
 use native.Mathlib.Omega.{arith}
@@ -60,7 +62,7 @@ step-requires : tie.Need-step-requires Inv-loop μ-loop
 step-requires c κs = search needs
 
 loop-less : tie.Need-loop-less Inv-loop μ-loop
-loop-less c = search needs
+loop-less c = let more = next-forward _ _ _ (c .step .ensures) in search needs
 
 loop-again : tie.Need-loop-again Inv-loop μ-loop
 loop-again c =
@@ -69,14 +71,14 @@ loop-again c =
     let call = c .before .before .before .put in
     making-on Node projected nodeBytes (a .t .now) (a .at) (a .from) _ _ _ _ (turn .i) _ _ _ (call .kept .0)
     (projection-turn (a .t .now) (a .from) _ _ (turn .i) _ _ _ _ (c .before .before .before .before .before .before .if3 .taken)
-    (c .before .before .before .before .before .word .ensures) (call .ensures) (c .step .ensures .1))
+    (c .before .before .before .before .before .word .ensures) (puts _ (call .ensures)) (next-place _ _ _ (c .step .ensures)))
     (turn .inv)
 
 step-requires-2 : tie.Need-step-requires-2 Inv-loop μ-loop
 step-requires-2 c κs = search needs
 
 loop-less-2 : tie.Need-loop-less-2 Inv-loop μ-loop
-loop-less-2 c = search needs
+loop-less-2 c = let more = next-forward _ _ _ (c .step2 .ensures) in search needs
 
 loop-again-2 : tie.Need-loop-again-2 Inv-loop μ-loop
 loop-again-2 c =
@@ -84,7 +86,7 @@ loop-again-2 c =
     let t = c .before .before .before .before .before .before .before .before .before .args .t .now in
     let inside = c .before .before .if2 .left in
     let skipped = skips projected 84 (omega arith) projected-over t (turn .i) inside (c .before .if3 .left) in
-    making-skip Node projected nodeBytes t _ _ _ _ _ (turn .i) _ _ inside (c .step2 .ensures .1) skipped (turn .inv)
+    making-skip Node projected nodeBytes t _ _ _ _ _ (turn .i) _ _ inside (next-place _ _ _ (c .step2 .ensures)) skipped (turn .inv)
 
 pub projections-spec : {M : Type 1} → statement M
 projections-spec =

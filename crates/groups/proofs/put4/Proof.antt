@@ -1,4 +1,5 @@
 -- Four bytes, the last one first. Assumes nothing.
+use Rattle.blocks.proofs.Holding.{puts}
 use Rattle.groups.proofs.BoundLaws.{puts-four}
 use borrow.Author.Needs.{needs}
 use Rattle.groups.proofs.put4.Statement.{statement}
@@ -35,7 +36,7 @@ returns c =
     let three = c .before .before .before .before .before .before .put3 in
     let four = c .before .before .put4 in
     puts-four _ _ _ _ _ _ _ _ _ _ _ _ (one .kept .0) (two .kept .0) (three .kept .0)
-    (one .ensures) (two .ensures) (three .ensures) (four .ensures)
+    (puts _ (one .ensures)) (puts _ (two .ensures)) (puts _ (three .ensures)) (puts _ (four .ensures))
 
 pub put4-spec : {M : Type 1} → statement M
 put4-spec =

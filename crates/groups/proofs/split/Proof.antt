@@ -1,4 +1,5 @@
 -- By whether a condition was written. Assumes nothing.
+use Rattle.blocks.proofs.Holding.{appends}
 use Rattle.groups.proofs.GroupLaws.{splits-none, splits-some}
 use borrow.Author.Needs.{needs}
 use Rattle.groups.proofs.split.Statement.{statement}
@@ -23,7 +24,7 @@ returns c =
     let one = two .before .before .before .before in
     let a = one .before .before .before .before .before .args in
     splits-none (a .t .now) (a .at) (a .from) _ _ _ _ _ _ _ _ (one .unfiltered .kept .1 .1 .0) (two .conjunction .kept .1 .1 .0)
-    (one .unfiltered .ensures) (two .conjunction .ensures) (search needs) (three .append .ensures)
+    (one .unfiltered .ensures) (two .conjunction .ensures) (search needs) (appends _ (three .append .ensures))
 
 same-length-2 : tie.Need-same-length-2
 same-length-2 c = search needs

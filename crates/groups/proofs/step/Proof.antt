@@ -1,6 +1,6 @@
 -- Each answer is one law, by the word. Assumes nothing.
-use mathlib.Core.Path.{refl}
-use Rattle.groups.proofs.StepLaws.{step-over, step-behind, step-triple, step-other}
+use mathlib.Core.Path.{_∙_}
+use Rattle.groups.proofs.StepLaws.{step-by, step-triple, step-other}
 use borrow.Author.Needs.{needs}
 use Rattle.groups.proofs.step.Statement.{statement}
 use Rattle.groups.proofs.step.Tie as tie
@@ -17,7 +17,7 @@ add-result c = search needs
 returns : tie.Need-returns
 returns c =
     let a = c .before .before .before .before .args in
-    (search needs, step-triple (a .t .now) (a .i) (search needs))
+    step-triple (a .t .now) (a .i) (search needs)
 
 add-result-2 : tie.Need-add-result-2
 add-result-2 c = search needs
@@ -25,7 +25,7 @@ add-result-2 c = search needs
 returns-2 : tie.Need-returns-2
 returns-2 c =
     let a = c .before .before .before .before .before .args in
-    (search needs, step-over (a .t .now) (a .i) 3 84 (c .if2 .taken) refl)
+    step-by (a .t .now) (a .i) 84 (c .if2 .taken)
 
 add-result-3 : tie.Need-add-result-3
 add-result-3 c = search needs
@@ -33,7 +33,7 @@ add-result-3 c = search needs
 returns-3 : tie.Need-returns-3
 returns-3 c =
     let a = c .before .before .before .before .before .before .args in
-    (search needs, step-over (a .t .now) (a .i) 7 69 (c .if3 .taken) refl)
+    step-by (a .t .now) (a .i) 69 (c .if3 .taken)
 
 add-behind : tie.Need-add-behind
 add-behind c = search needs
@@ -44,7 +44,7 @@ behind-requires c κs = search needs
 returns-4 : tie.Need-returns-4
 returns-4 c =
     let a = c .before .before .before .before .before .before .before .before .args in
-    (search needs, step-behind (a .t .now) (a .i) 1 (c .behind .result) 123 (c .before .if4 .taken) refl (c .behind .ensures .1))
+    c .behind .ensures ∙ step-by (a .t .now) (a .i) 123 (c .before .if4 .taken)
 
 add-behind-2 : tie.Need-add-behind-2
 add-behind-2 c = search needs
@@ -55,7 +55,7 @@ behind-requires-2 c κs = search needs
 returns-5 : tie.Need-returns-5
 returns-5 c =
     let a = c .before .before .before .before .before .before .before .before .before .args in
-    (search needs, step-behind (a .t .now) (a .i) 2 (c .behind2 .result) 70 (c .before .if5 .taken) refl (c .behind2 .ensures .1))
+    c .behind2 .ensures ∙ step-by (a .t .now) (a .i) 70 (c .before .if5 .taken)
 
 add-behind-3 : tie.Need-add-behind-3
 add-behind-3 c = search needs
@@ -66,7 +66,7 @@ behind-requires-3 c κs = search needs
 returns-6 : tie.Need-returns-6
 returns-6 c =
     let a = c .before .before .before .before .before .before .before .before .before .before .args in
-    (search needs, step-behind (a .t .now) (a .i) 2 (c .behind3 .result) 79 (c .before .if6 .taken) refl (c .behind3 .ensures .1))
+    c .behind3 .ensures ∙ step-by (a .t .now) (a .i) 79 (c .before .if6 .taken)
 
 add-behind-4 : tie.Need-add-behind-4
 add-behind-4 c = search needs
@@ -77,7 +77,7 @@ behind-requires-4 c κs = search needs
 returns-7 : tie.Need-returns-7
 returns-7 c =
     let a = c .before .before .before .before .before .before .before .before .before .before .before .args in
-    (search needs, step-behind (a .t .now) (a .i) 2 (c .behind4 .result) 85 (c .before .if7 .taken) refl (c .behind4 .ensures .1))
+    c .behind4 .ensures ∙ step-by (a .t .now) (a .i) 85 (c .before .if7 .taken)
 
 add-result-4 : tie.Need-add-result-4
 add-result-4 c = search needs
@@ -88,9 +88,8 @@ returns-8 c =
     let seventh = c .before in
     let fifth = seventh .before .before in
     let third = fifth .before .before in
-    let other = step-other (a .t .now) (a .i) (search needs) (third .if2 .left) (fifth .before .if3 .left) (fifth .if4 .left)
-    (seventh .before .if5 .left) (seventh .if6 .left) (c .if7 .left) in
-    (search needs, other)
+    step-other (a .t .now) (a .i) (search needs) (third .if2 .left) (fifth .before .if3 .left) (fifth .if4 .left)
+    (seventh .before .if5 .left) (seventh .if6 .left) (c .if7 .left)
 
 pub step-spec : {M : Type 1} → statement M
 step-spec =

@@ -3,6 +3,7 @@ use Prim.Native.Nat.{_-_}
 use native.Mathlib.Omega.{arith}
 use borrow.Author.Needs.{needs}
 use lib.ListN.{length}
+use Rattle.blocks.proofs.Holding.{appends}
 use Rattle.clauses.specs.declared.Block.{Block}
 use Rattle.parser.proofs.GatherLaws.{Gathering, gathering-first, gathering-inside, gathering-end, gathering-closes, gathering-passes}
 use Prim.Native.Nat.{ℕ, _<_}
@@ -61,7 +62,8 @@ gather-returns t c =
     let turn = c .before .loop in
     let call = c .before .before .before .before .append in
     let answer : Block = record { next = turn .g .next; len = turn .g .len } in
-    (turn .inv .forward, gathering-inside _ _ _ _ _ _ _ (turn .g) answer (search needs) (call .kept .0) (call .ensures) (turn .inv))
+    let set = appends _ (call .ensures) in
+    (turn .inv .forward, gathering-inside _ _ _ _ _ _ _ (turn .g) answer (search needs) (call .kept .0) set (turn .inv))
 
 gather-mul-w : (t : ℕ) → gather-lts.Need-mul-w (gather-calls t) (gather-at t) gather.Post Inv-loop μ-loop
 gather-mul-w t c = search needs
@@ -80,7 +82,7 @@ gather-returns-2 t c =
     let turn = c .before .before .before .loop in
     let call = c .before .before .before .before .before .before .append in
     let forward = turn .inv .forward in
-    (omega arith, gathering-end _ _ _ _ _ _ _ (turn .g) (c .if2 .taken) (call .kept .0) (call .ensures) (turn .inv))
+    (omega arith, gathering-end _ _ _ _ _ _ _ (turn .g) (c .if2 .taken) (call .kept .0) (appends _ (call .ensures)) (turn .inv))
 
 gather-body-place-requires : (t : ℕ) → gather-lts.Need-body-place-requires (gather-calls t) (gather-at t) gather.Post Inv-loop μ-loop
 gather-body-place-requires t c κs = search needs

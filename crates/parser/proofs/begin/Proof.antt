@@ -1,4 +1,5 @@
 -- Each answer is one law. Assumes nothing.
+use Rattle.blocks.proofs.Holding.{appends, puts}
 use Rattle.parser.proofs.SetLaws.{begins-none, begins-empty, begins-full}
 use borrow.Author.Needs.{needs}
 use Rattle.parser.proofs.begin.Statement.{statement}
@@ -26,8 +27,8 @@ returns-3 : tie.Need-returns-3
 returns-3 c =
     let two = c .before .before in
     let one = two .before .before .before .before in
-    begins-full _ _ _ _ _ _ _ (search needs) (one .before .before .if2 .left) (one .append .kept .0) (one .append .ensures)
-    (two .put .ensures)
+    begins-full _ _ _ _ _ _ _ (search needs) (one .before .before .if2 .left) (one .append .kept .0) (appends _ (one .append .ensures))
+    (puts _ (two .put .ensures))
 
 pub begin-spec : {M : Type 1} → statement M
 begin-spec =

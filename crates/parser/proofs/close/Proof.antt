@@ -1,4 +1,5 @@
 -- Each answer is one law: OPTIONAL, UNION behind the group, or neither. Assumes nothing.
+use Rattle.blocks.proofs.Holding.{exchanges, puts}
 use mathlib.Core.Path.{sym, _∙_}
 use Rattle.parser.proofs.CloseLaws.{close-optional, close-union, close-join}
 use borrow.Author.Needs.{needs}
@@ -29,8 +30,8 @@ returns c =
     let a = test .before .before .before .before .before .args in (
       search needs,
       close-optional (a .t .now) _ _ _ _ (a .a) (a .from) _ _ (a .g) (a .b) (sym (test .before .word .ensures) ∙ test .if1 .taken)
-          (one .split .kept .1 .1 .0) (two .exchange .kept .0) (three .put .kept .0) (one .split .ensures) (two .exchange .ensures)
-          (three .put .ensures),
+          (one .split .kept .1 .1 .0) (two .exchange .kept .0) (three .put .kept .0) (one .split .ensures)
+          (exchanges (two .exchange .ensures)) (puts _ (three .put .ensures)),
     )
 
 filtered-requires : tie.Need-filtered-requires

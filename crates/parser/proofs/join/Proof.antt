@@ -1,4 +1,5 @@
 -- Each answer is one law. Assumes nothing.
+use Rattle.blocks.proofs.Holding.{exchanges, puts}
 use Rattle.parser.proofs.SetLaws.{joins-none, joins-none-2, joins-right-empty, joins-left-empty, joins-both}
 use borrow.Author.Needs.{needs}
 use Rattle.parser.proofs.join.Statement.{statement}
@@ -31,7 +32,7 @@ same-length c = search needs
 returns-4 : tie.Need-returns-4
 returns-4 c =
     let call = c .before .before in
-    joins-left-empty _ _ _ _ _ (search needs) (call .before .before .if4 .taken) (search needs) (call .exchange .ensures)
+    joins-left-empty _ _ _ _ _ (search needs) (call .before .before .if4 .taken) (search needs) (exchanges (call .exchange .ensures))
 
 put-requires : tie.Need-put-requires
 put-requires c κs = search needs
@@ -43,7 +44,7 @@ returns-5 : tie.Need-returns-5
 returns-5 c =
     let call = c .before .before in
     let last = call .before .before in
-    joins-both _ _ _ _ _ _ (search needs) (search needs) (last .if4 .left) (last .before .if3 .left) (call .put .ensures)
+    joins-both _ _ _ _ _ _ (search needs) (search needs) (last .if4 .left) (last .before .if3 .left) (puts _ (call .put .ensures))
 
 pub join-spec : {M : Type 1} → statement M
 join-spec =

@@ -1,4 +1,5 @@
 -- A triple, or what joins nothing. Assumes nothing.
+use Rattle.groups.proofs.StepLaws.{next-forward}
 use Rattle.parser.proofs.PassLaws.{pass-triple, pass-other}
 use borrow.Author.Needs.{needs}
 use Rattle.parser.proofs.pass.Statement.{statement}
@@ -28,6 +29,7 @@ step-requires c κs = search needs
 returns-2 : tie.Need-returns-2
 returns-2 c =
     let a = c .before .before .before .before .before .before .args in
+    let forward = next-forward (a .t .now) (a .g .next) _ (c .step .ensures) in
     (search needs, pass-other (a .t .now) _ (a .from) _ (a .g) (search needs) (c .step .ensures))
 
 pub pass-spec : {M : Type 1} → statement M

@@ -1,4 +1,5 @@
 -- Each answer is one law. Assumes nothing.
+use Rattle.blocks.proofs.Holding.{appends}
 use Rattle.parser.proofs.SetLaws.{slots-variable, slots-term}
 use borrow.Author.Needs.{needs}
 use Rattle.parser.proofs.slot.Statement.{statement}
@@ -21,7 +22,7 @@ returns c =
     let call = c .before .before in
     let test = call .before .before in
     let a = test .before .before .before .before .args in
-    slots-variable (a .t .now) (a .i) _ _ _ _ _ (test .before .word .ensures) (test .if1 .taken) (call .append3 .ensures)
+    slots-variable (a .t .now) (a .i) _ _ _ _ _ (test .before .word .ensures) (test .if1 .taken) (appends _ (call .append3 .ensures))
 
 cast-append3-2 : tie.Need-cast-append3-2
 cast-append3-2 c = search needs
@@ -42,7 +43,8 @@ returns-2 : tie.Need-returns-2
 returns-2 c =
     let call = c .before .before in
     let a = call .before .before .before .before .before .before .args in
-    slots-term (a .t .now) (a .i) _ _ _ _ _ (call .before .before .before .word .ensures) (search needs) (call .append32 .ensures)
+    slots-term (a .t .now) (a .i) _ _ _ _ _ (call .before .before .before .word .ensures) (search needs)
+    (appends _ (call .append32 .ensures))
 
 pub slot-spec : {M : Type 1} → statement M
 slot-spec =

@@ -1,7 +1,7 @@
 -- By the kind of the word: it closes, it opens, or is no bracket. Assumes nothing.
 use mathlib.Core.Path.{sym, _∙_}
 use borrow.Author.Needs.{needs}
-use Rattle.words.proofs.LinkLaws.{next, closed-closing, closed-opening, closed-other}
+use Rattle.words.proofs.LinkLaws.{closed-place, next, closed-closing, closed-opening, closed-other}
 use Rattle.words.proofs.end_of.Statement.{statement}
 use Rattle.words.proofs.end_of.Tie as tie
 
@@ -23,7 +23,7 @@ cast-result c = search needs
 returns : tie.Need-returns
 returns c =
     let a = c .before .before .before .before .before .args in
-    closed-closing (a .t .now) (a .i) (search needs) (sym (c .before .closes .ensures) ∙ c .if1 .taken)
+    closed-place (closed-closing (a .t .now) (a .i) (search needs) (sym (c .before .closes .ensures) ∙ c .if1 .taken))
 
 add-next : tie.Need-add-next
 add-next c = search needs
@@ -66,7 +66,7 @@ returns-2 c =
     let a = start .args in
     let notClosing = sym (closed .closes .ensures) ∙ opened .before .before .if1 .left in
     let opening = sym (opened .opens .ensures) ∙ c .before .if2 .taken in
-    closed-opening (a .t .now) (a .ends .now) (a .i) (search needs) (start .pre .1) notClosing opening
+    closed-place (closed-opening (a .t .now) (a .ends .now) (a .i) (search needs) (start .pre .1) notClosing opening)
 
 returns-3 : tie.Need-returns-3
 returns-3 c =
@@ -76,7 +76,7 @@ returns-3 c =
     let a = start .args in
     let notClosing = sym (closed .closes .ensures) ∙ opened .before .before .if1 .left in
     let notOpening = sym (opened .opens .ensures) ∙ c .if2 .left in
-    closed-other (a .t .now) (a .ends .now) (a .i) (search needs) (start .pre .1) notClosing notOpening
+    closed-place (closed-other (a .t .now) (a .ends .now) (a .i) (search needs) (start .pre .1) notClosing notOpening)
 
 pub end-of-spec : {M : Type 1} → statement M
 end-of-spec =

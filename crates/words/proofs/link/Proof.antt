@@ -59,7 +59,9 @@ same-length c =
     c .before .loop .inv .same ∙ length-set (a .ends .now) (length (a .t .now)) (length (a .t .now))
 
 returns : tie.Need-returns Inv-loop μ-loop
-returns c = linking-all _ _ _ (c .before .loop .i) (search needs) (c .before .loop .inv)
+returns c =
+    let a = c .before .before .before .before .args in
+    linking-all _ (a .ends .now) _ (c .before .loop .i) (search needs) (c .before .loop .inv)
 
 pub link-spec : {M : Type 1} → statement M
 link-spec =
