@@ -106,7 +106,7 @@ runWeight : List Pattern → ℕ
 runWeight [] = 0
 runWeight (p ∷ ps) = 11 + 9 * length ps
 
-patterns-size : (ps : List Pattern) → length (concatMap patternBytes ps) ≡ 9 * length ps
+pub patterns-size : (ps : List Pattern) → length (concatMap patternBytes ps) ≡ 9 * length ps
 unfolding patternBytes
 patterns-size [] = refl
 patterns-size (p ∷ ps) = let h = patterns-size ps in omega (arith, length-append (patternBytes p) (concatMap patternBytes ps))

@@ -3,7 +3,7 @@
 use mathlib.Core.Path.{_≡_, refl, sym, ap, _∙_, subst⁻¹}
 use mathlib.Core.Bool.{Bool, true, false, cond, _&&_}
 use mathlib.Core.Bool as B
-use mathlib.Core.List.{List, [], _∷_, _++_, List·Memᴰ, List·Memᴰ·tail}
+use mathlib.Core.List.{List, [], _∷_, _++_, List·Memᴰ}
 use mathlib.Core.Option.{Option, none, some}
 use Prim.Native.Nat.{ℕ, suc, _+_, _*_, _-_, _≤_}
 use native.Mathlib.Omega.{arith}
@@ -15,12 +15,12 @@ use Rattle.tsparql.proofs.ListLaws.{and-left, and-right}
 use Rattle.grammar.specs.Tokens.{Token, mark, var, num, neg, isWordOrNumber, isWordNumberOrVariable, isCapital, isSpace}
 use Rattle.grammar.specs.Tokens.{Written, done, space}
 use Rattle.grammar.specs.Automaton.{Symbol, Entry, marks, vars, terms, isBound, Kind, kNum, kNeg, tokenOf}
-use Rattle.grammar.specs.Automaton.{State, gap, inMark, first, inNumber, Move, stop, go, prepend, digit, find, within}
+use Rattle.grammar.specs.Automaton.{State, gap, inMark, first, inNumber, Move, stop, go, prepend, digit, within}
 use Rattle.grammar.specs.Automaton.{onMark, onVar, onTerm, onto, inGap, step, Outcome, accepted, fault, after, finish, run}
-use Rattle.grammar.proofs.Accepts.{Step, byMark, byVar, byTerm, byPlus, byMinus, Accepts, over, then, at0}
+use Rattle.grammar.proofs.Accepts.{Step, byMark, byVar, byTerm, byPlus, byMinus, Accepts, over, then}
 use Rattle.grammar.proofs.Numerals.{IsDigit, Digits, more, numeral}
 use Rattle.grammar.proofs.Numerals.{Spells, ofMark, ofVar, ofNum, ofNeg}
-use Rattle.grammar.proofs.TableFacts.{Begins, fact-of}
+use Rattle.grammar.proofs.TableFacts.{Begins, fact-of, find-mem}
 use Rattle.grammar.proofs.Basics.{cond-cases}
 use Rattle.grammar.proofs.States.{InMark, InNumber, Rest, Good, ended, spelled, digit-true}
 
@@ -36,12 +36,6 @@ back-within : (st : State) (b : ℕ) (w : List ℕ) (t : Token) (σ : List Symbo
 back-within st b [] t σ f =
     (tt, λ us s r. f (t ∷ us) s (record { tail = s; tokens = us; bytes = refl; same = refl; accepts = r .0; written = r .1 }))
 back-within st b (c ∷ w) t σ f = (tt, f)
-
-find-mem : (b : ℕ) (es : List Entry) (P : Option Entry → Type 0) → P none
-    → ((e : Entry) → List·Memᴰ e es → b ≡ getD (e .0) 0 0 → P (some e)) → P (find b es)
-find-mem b [] P n f = n
-find-mem b (e ∷ es) P n f =
-    cond-cases P (eqb b (getD (e .0) 0 0)) (λ q. f e at0 (eqb-true b _ q)) (λ q. find-mem b es P n (λ x m. f x (List·Memᴰ·tail m)))
 
 module _ (a : Bool) (X : Symbol) (σ : List Symbol) (b : ℕ) where
   -- a token at its first byte: that it may come, and how it is written

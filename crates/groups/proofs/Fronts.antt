@@ -16,12 +16,13 @@ use Rattle.grammar.specs.Grammar.{Slot, Variable, Thousandths, Disjunction, dis
 use Rattle.grammar.specs.Grammar.{Body, end, triple, tripleDot, element, elementDot, bodyTokens}
 use Rattle.grammar.specs.Grammar.{Element, groups, optional, filter, trustAs, ensure, elementTokens}
 use Rattle.grammar.specs.Grammar.{Unions, none, andUnion, unionsTokens}
+use Rattle.grammar.specs.Sparql.{optionalDot}
 use Rattle.grammar.specs.Meaning.{Item, aTriple, aGroup, aFilter, aProjection, aBound, items, itemOf, united, groupNode, optionalItem}
 use Rattle.grammar.specs.Meaning.{patternOf, valueOf, disjunctionOf}
 use Rattle.words.specs.Words.{words, slotWord, thousandthsWord}
 use Rattle.words.specs.Links.{behindOf}
 use Rattle.words.proofs.Balance.{slot-large, behind-condition, behind-body}
-use Rattle.groups.specs.Items.{dotted, Follows, Items}
+use Rattle.groups.specs.Items.{Follows, Items}
 
 -- the words ws are those of a body with the items is, where further groups of a UNION, which have no item of their own, may stand before
 pub record Walks (ws : List ℕ) (is : List Item) (rest : List Token) : Type 0 where
@@ -134,7 +135,7 @@ module _ (ws : List ℕ) (rest : List Token) where
   unfolding ascii
   view-tail is ts e f = go (f .dot) (e ∙ ap words (f .written))
     where
-      go : (dot : Bool) → ws ≡ words (dotted dot (bodyTokens (f .tree) rest)) → Viewed ws is rest
+      go : (dot : Bool) → ws ≡ words (optionalDot dot (bodyTokens (f .tree) rest)) → Viewed ws is rest
       go true e′ =
           let same : Follows (bodyTokens (f .tree) rest) is rest =
           record { bare = f .bare; tree = f .tree; dot = false; written = refl; means = f .means } in
@@ -203,7 +204,7 @@ items-first ws is rest i e = go (f .dot) (sym (ap (λ (l : List ℕ). getD l 0 0
     f : Follows (i .tail) is rest
     f = i .follows
 
-    go : (dot : Bool) → getD (words (dotted dot (bodyTokens (f .tree) rest))) 0 0 ≡ 85 → ⊥
+    go : (dot : Bool) → getD (words (optionalDot dot (bodyTokens (f .tree) rest))) 0 0 ≡ 85 → ⊥
     go true q = omega (arith, q)
     go false q = body-first (f .tree) rest q
 

@@ -1,28 +1,24 @@
 -- The words of a group's body, item by item: which tokens are those of a body from an item on, and where the next item begins. Assumes
 -- nothing.
 use mathlib.Core.Path.{_≡_}
-use mathlib.Core.Bool.{Bool, true, false, cond, _||_}
-use mathlib.Core.List.{List, _∷_}
+use mathlib.Core.Bool.{Bool, cond, _||_}
+use mathlib.Core.List.{List}
 use Prim.Native.Nat.{ℕ, _+_}
 use lib.Dec.{eqb, leb}
 use lib.ListN.{getD}
-use Rattle.grammar.specs.Tokens.{Token, mark, DOT}
+use Rattle.grammar.specs.Tokens.{Token}
 use Rattle.grammar.specs.Grammar.{Body, bodyTokens}
+use Rattle.grammar.specs.Sparql.{optionalDot}
 use Rattle.grammar.specs.Meaning.{Item, items}
 use Rattle.words.specs.Words.{words}
 use Rattle.words.specs.Links.{closing}
-
--- a dot may stand before
-abbrev pub dotted : Bool → List Token → List Token
-dotted true ts = mark DOT ∷ ts
-dotted false ts = ts
 
 -- the tokens ts are those of a body with the items is, perhaps behind a dot, and then rest
 pub record Follows (ts : List Token) (is : List Item) (rest : List Token) : Type 0 where
   pub bare : Bool
   pub tree : Body bare
   pub dot : Bool
-  pub written : ts ≡ dotted dot (bodyTokens tree rest)
+  pub written : ts ≡ optionalDot dot (bodyTokens tree rest)
   pub means : is ≡ items tree
 
 -- the words ws are those of such tokens

@@ -14,7 +14,7 @@ use borrow.Author.Tests.{eq-eqb, ne-eqb}
 use Rattle.grammar.specs.Tokens.{mark, isCapital}
 use Rattle.grammar.specs.Automaton.{Symbol, Entry, marks, find, digit, gap, fault, run}
 use Rattle.grammar.proofs.Basics.{cond-cases}
-use Rattle.grammar.proofs.TableFacts.{fact-of}
+use Rattle.grammar.proofs.TableFacts.{fact-of, find-mem}
 use Rattle.scanner.specs.Scans.{common}
 use Rattle.scanner.specs.Fixed.{fixedToken, compared}
 use Rattle.scanner.specs.declared.Literal.{Literal}
@@ -30,7 +30,6 @@ use Rattle.lexer.specs.declared.Step.the-variants as S
 use Rattle.lexer.specs.declared.Lexeme.{Lexeme}
 use Rattle.lexer.proofs.Advances.{Took, Advanced}
 use Rattle.lexer.proofs.SymbolLaws.{entry-word, entry-few}
-use Rattle.lexer.proofs.EntryLaws.{find-cases}
 use Rattle.lexer.proofs.FirstByte.{Other, mark-none, mark-tight}
 
 -- ---- how much of one stands at a place
@@ -173,7 +172,7 @@ module _ (s : List ℕ) (at : ℕ) (a : Bool) (X : Symbol) (h : at < length s) (
 
   listed : Apart (productionOf (find byte (marks X)))
   listed =
-      find-cases byte (marks X) (λ e. find byte (marks X) ≡ e → Apart (productionOf e))
+      find-mem byte (marks X) (λ e. find byte (marks X) ≡ e → Apart (productionOf e))
       (λ e σ. stop-at s at (gap a (X ∷ σ)) h (mark-none a X σ byte o e))
       (λ entry m f e. cond-cases (Advanced s at a X) (a && isCapital byte)
       (λ c σ. stop-at s at (gap a (X ∷ σ)) h (mark-tight a X σ byte o entry e (rw f at c)))

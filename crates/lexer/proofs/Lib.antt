@@ -1,7 +1,6 @@
 -- Laws about symbols, rules, stacks, tokens and scans, each file above the ones that use it.
 pub mod SymbolLaws
 pub mod RuleLaws
-pub mod EntryLaws
 pub mod StackLaws
 pub mod Advances
 pub mod FirstByte

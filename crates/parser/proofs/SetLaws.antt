@@ -12,6 +12,7 @@ use Rattle.tsparql.proofs.ListLaws.{concatMap-append}
 use Rattle.tsparql.specs.Query as Q
 use Rattle.tsparql.specs.Query.{Node, Pattern, patternSet, join, leftJoin, union, projectTrust, ensureTrust}
 use Rattle.tsparql.specs.Writing.{nodeBytes, conditionBytes, patternBytes, threeBytes, slotNumber}
+use Rattle.grammar.proofs.Sizes.{patterns-size}
 use Rattle.grammar.specs.Grammar.{term, variable}
 use Rattle.grammar.specs.Meaning.{isEmptySet, joined, slotOf, patternOf}
 use Rattle.blocks.specs.Blocks.{Holds, Puts, Exchanges, Appends}
@@ -60,11 +61,6 @@ full-large (projectTrust v x) e = omega (arith, node-large x)
 full-large (ensureTrust l u x) e = omega arith
 
 -- ---- sets
-
-patterns-size : (ps : List Pattern) → length (concatMap patternBytes ps) ≡ 9 * length ps
-unfolding patternBytes
-patterns-size [] = refl
-patterns-size (p ∷ ps) = let h = patterns-size ps in omega (arith, length-append (patternBytes p) (concatMap patternBytes ps))
 
 is-empty : (x : Node) → isEmptySet x ≡ true → x ≡ patternSet []
 is-empty (patternSet []) e = refl

@@ -10,13 +10,14 @@ use lib.ListN.{length, drop, getD, length-drop, length-map}
 use Rattle.tsparql.specs.Query.{Node, patternSet}
 use Rattle.tsparql.specs.Writing.{nodeBytes}
 use Rattle.grammar.specs.Tokens.{Token}
+use Rattle.grammar.specs.Sparql.{optionalDot}
 use Rattle.grammar.specs.Grammar.{bodyTokens}
 use Rattle.grammar.specs.Meaning.{Item, joined}
 use Rattle.grammar.proofs.Sizes.{tree-size}
 use Rattle.blocks.specs.Blocks.{Holds}
 use Rattle.words.specs.Words.{tokenWord}
 use Rattle.words.proofs.WordLaws.{word-first}
-use Rattle.groups.specs.Items.{dotted, Follows, Items}
+use Rattle.groups.specs.Items.{Follows, Items}
 use Rattle.parser.specs.Sets.{pendingBytes}
 use Rattle.parser.specs.Stages.{Coming, Stands}
 use Rattle.parser.specs.declared.Stage.{Stage}
@@ -26,11 +27,11 @@ use Rattle.parser.specs.declared.Stage.{Stage}
 -- a body has more tokens than stand behind it
 pub follows-longer : (ts : List Token) (is : List Item) (rest : List Token) → Follows ts is rest → length rest < length ts
 follows-longer ts is rest f =
-    omega (arith, tree-size (f .tree) rest, ap length (f .written), dotted-longer (f .dot) (bodyTokens (f .tree) rest))
+    omega (arith, tree-size (f .tree) rest, ap length (f .written), dot-longer (f .dot) (bodyTokens (f .tree) rest))
   where
-    dotted-longer : (b : Bool) (us : List Token) → length us ≤ length (dotted b us)
-    dotted-longer true us = omega arith
-    dotted-longer false us = omega arith
+    dot-longer : (b : Bool) (us : List Token) → length us ≤ length (optionalDot b us)
+    dot-longer true us = omega arith
+    dot-longer false us = omega arith
 
 pub items-longer : (ws : List ℕ) (is : List Item) (rest : List Token) → Items ws is rest → length rest < length ws
 items-longer ws is rest i =

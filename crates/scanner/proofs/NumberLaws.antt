@@ -12,13 +12,13 @@ use lib.Dec.{leb}
 use lib.ListN.{length, drop, getD, drop-of-length-le}
 use borrow.Author.Tests.{le-leb, lt-leb, leb-true}
 use Rattle.tsparql.proofs.ListLaws.{and-left, and-right}
-use Rattle.grammar.proofs.Basics.{cond-cases}
+use Rattle.grammar.proofs.Basics.{cond-cases, ahead}
 use Rattle.grammar.specs.Automaton.{Symbol, Kind, tokenOf, gap, first, inNumber, digit, inGap, fault, after, finish, run}
 use Rattle.scanner.specs.Scans.{goesOn, numberFrom, valueIn, numeralFrom}
 use Rattle.scanner.specs.declared.Numeric.{Numeric}
 use Rattle.scanner.specs.declared.Digits.{Digits}
 use Rattle.scanner.specs.declared.Digits.the-variants.{Value, Missing}
-use Rattle.scanner.proofs.RunLaws.{ahead, moved-prepend, run-step, move-at, stop-at, end-at}
+use Rattle.scanner.proofs.RunLaws.{moved-prepend, run-step, move-at, stop-at, end-at}
 
 -- ---- digits
 

@@ -31,10 +31,6 @@ run-cons b s n st = refl
 
 -- ---- at a place
 
--- a byte at a place, and those behind it
-pub ahead : (s : List ℕ) (i : ℕ) → i < length s → drop i s ≡ getD s i 0 ∷ drop (i + 1) s
-ahead s i h = drop-cons s i 0 h ∙ ap (λ (n : ℕ). getD s i 0 ∷ drop n s) (sym (add-one i))
-
 pub run-step : (s : List ℕ) (i : ℕ) (st : State) → i < length s → run (drop i s) i st ≡ moved (drop (i + 1) s) i (step st (getD s i 0))
 run-step s i st h = rw (add-one, drop-cons s i 0 h) (run-cons (getD s i 0) (drop (suc i) s) i st)
 

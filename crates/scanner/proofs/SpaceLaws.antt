@@ -10,11 +10,11 @@ use native.Mathlib.Nat.{le-refl}
 use lib.Dec.{eqb}
 use lib.ListN.{length, drop, getD, drop-of-length-le}
 use borrow.Author.Tests.{eq-eqb, ne-eqb}
-use Rattle.grammar.proofs.Basics.{cond-cases}
+use Rattle.grammar.proofs.Basics.{cond-cases, ahead}
 use Rattle.grammar.specs.Tokens.{isSpace}
 use Rattle.grammar.specs.Automaton.{Symbol, gap, run}
 use Rattle.scanner.specs.Scans.{skipFrom}
-use Rattle.scanner.proofs.RunLaws.{ahead, move-at}
+use Rattle.scanner.proofs.RunLaws.{move-at}
 
 -- ---- the loop
 

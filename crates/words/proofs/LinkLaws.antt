@@ -5,13 +5,12 @@ use mathlib.Core.Bool.{Bool, true, false}
 use mathlib.Core.List.{List, [], _∷_}
 use Prim.Native.Nat.{ℕ, zero, suc, _+_, _-_, _≤_, _<_}
 use native.Mathlib.Omega.{arith}
-use native.Mathlib.Numerals.{add-one}
 use native.Mathlib.Nat.{le-refl, sub-self}
 use lib.Dec.{ltb}
 use lib.ListN.{length, drop, getD, set, length-set, length-drop}
-use lib.Seq.{drop-cons, drop-drop, drop-length, getD-set-same, getD-set-other}
+use lib.Seq.{drop-drop, drop-length, getD-set-same, getD-set-other}
 use borrow.Author.Tests.{ltb-true, ltb-false}
-use Rattle.grammar.proofs.Basics.{cond-cases}
+use Rattle.grammar.proofs.Basics.{cond-cases, ahead}
 use Rattle.words.specs.Links.{isOpening, isClosing, behindOf, closing, LinkedFrom, Linked, Links}
 
 -- ---- what stands behind
@@ -95,10 +94,6 @@ place-closed t i h =
     record { from = closing-forward t i; to = omega (arith, length-drop i t); so = closing-behind t i }
 
 -- ---- one word more
-
--- a word at a place, and those behind it
-ahead : (t : List ℕ) (i : ℕ) → i < length t → drop i t ≡ getD t i 0 ∷ drop (i + 1) t
-ahead t i h = drop-cons t i 0 h ∙ ap (λ (n : ℕ). getD t i 0 ∷ drop n t) (sym (add-one i))
 
 pub closed-closing : (t : List ℕ) (i : ℕ) → i < length t → isClosing (getD t i 0) ≡ true → ClosedAt t i (i + 1)
 unfolding behindOf
