@@ -30,7 +30,7 @@ pub fn skip(s: &[u8], at: usize) -> usize
 // ---- fixed tokens
 
 // How many bytes of a word the text begins with.
-pub fn shared(text: &[u8], word: &[u8]) -> usize
+fn shared(text: &[u8], word: &[u8]) -> usize
     ensures { λ r. ⌜ r ≡ common (now (word .entry)) (now (text .entry)) ⌝ }
 {
     let mut i = 0;

@@ -5,10 +5,10 @@ use Rattle.scanner.proofs.capital.Statement.{statement}
 use Rattle.scanner.proofs.capital.Tie as tie
 
 returns : tie.Need-returns
-returns c = rw (lt-leb _ _ (c .if1 .taken))
+returns c = rw (lt-leb 65 _ (c .if1 .taken))
 
 returns-2 : tie.Need-returns-2
-returns-2 c = sym (rw (le-leb _ _ (c .if1 .left)))
+returns-2 c = sym (rw (le-leb 65 _ (c .if1 .left)))
 
 pub capital-spec : {M : Type 1} → statement M
 capital-spec = tie.close (tie.spec returns returns-2)
