@@ -1,6 +1,6 @@
 -- What a buffer holds (`Holds`) after a byte came in front of a block (`puts`), bytes came behind the end (`appends`), and two blocks
 -- changed places (`exchanges`), which three reversals do (`exchange-reversals`). Assumes nothing.
-use mathlib.Core.Path.{_≡_, sym, ap, _∙_, subst}
+use mathlib.Core.Path.{_≡_, refl, sym, ap, _∙_, subst}
 use mathlib.Core.Bool as B
 use mathlib.Core.List.{List, [], _∷_, _++_, append-assoc, append-nil}
 use mathlib.Core.Logic.{_⊎_, ⊎-elim}
@@ -90,15 +90,15 @@ appends (v ∷ bs) {l} {l′} {e} {r} w pre h room =
     (omega (arith, length-shifted l e e v (omega arith) k)) in
     subst (λ (x : List ℕ). Holds l′ x r) (append-assoc pre (v ∷ []) bs) more
 
--- one after the other
-pub appends-more :
-    (l l₁ l₂ bs cs : List ℕ) (e m r : ℕ) → length l₁ ≡ length l → Appends l l₁ e bs m → Appends l₁ l₂ m cs r → Appends l l₂ e (bs ++ cs) r
-appends-more l l₁ l₂ bs cs e m r same f g pre h room =
-    let s = h .size in
-    let h₁ = f pre h (omega (arith, length-append bs cs)) in
-    let s₁ = h₁ .size in
-    let h₂ = g (pre ++ bs) h₁ (omega (arith, length-append bs cs, length-append pre bs)) in
-    subst (λ (x : List ℕ). Holds l₂ x r) (append-assoc pre bs cs) h₂
+-- bytes behind bytes
+appended-append : (b : Buffer) (bs cs : List ℕ) → appended (appended b bs) cs ≡ appended b (bs ++ cs)
+unfolding appended
+appended-append b [] cs = refl
+appended-append b (v ∷ bs) cs = appended-append (inserted b (b .end) v) bs cs
+
+pub appended-on :
+    (bs cs : List ℕ) (b : Buffer) {b₁ b₂ : Buffer} → b₁ ≡ appended b bs → b₂ ≡ appended b₁ cs → b₂ ≡ appended b (bs ++ cs)
+appended-on bs cs b e f = f ∙ ap (λ (x : Buffer). appended x cs) e ∙ appended-append b bs cs
 
 -- ---- two blocks
 

@@ -2,7 +2,8 @@
 // last one, and two neighbours change places. The functions that add a byte answer the new end; where there is no room nothing changes.
 ghost use mathlib.Core.List.{[], _∷_};
 ghost use mathlib.Core.Path.{_≡_};
-ghost use Prim.Native.Nat.{_≤_};
+ghost use Prim.Native.Nat.{_≤_, _%_};
+ghost use Rattle.tsparql.specs.Writing.{threeBytes};
 ghost use Rattle.blocks.specs.Buffers.{buffer, inserted, appended, exchanged};
 use bytes::reverse;
 
@@ -40,13 +41,13 @@ pub fn append(out: &mut [u8], end: usize, v: u8) -> usize
     put(out, end, end, v)
 }
 
-// Three bytes behind it.
-pub fn append3(out: &mut [u8], end: usize, a: u8, b: u8, c: u8) -> usize
-    ensures { λ r. ⌜ buffer (now (out .exit)) r ≡ appended (buffer (now (out .entry)) end) (a ∷ b ∷ c ∷ []) ⌝ }
+// Three bytes behind it, which hold the low 21 bits of a number.
+pub fn append3(out: &mut [u8], end: usize, x: u32) -> usize
+    ensures { λ r. ⌜ buffer (now (out .exit)) r ≡ appended (buffer (now (out .entry)) end) (threeBytes (x % 2097152)) ⌝ }
 {
-    let n = append(out, end, a);
-    let m = append(out, n, b);
-    append(out, m, c)
+    let n = append(out, end, (x / 65536 % 32) as u8);
+    let m = append(out, n, (x / 256 % 256) as u8);
+    append(out, m, (x % 256) as u8)
 }
 
 // The last two blocks, from `at` to `mid` and on to the end, change places: each is reversed, and then the whole.

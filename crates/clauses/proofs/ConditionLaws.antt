@@ -21,10 +21,11 @@ use Rattle.grammar.specs.Meaning.{disjunctionOf, primaryOf}
 use Rattle.blocks.specs.Blocks.{Holds, Appends}
 use Rattle.words.specs.Words.{words}
 use Rattle.clauses.specs.Tails.{tailTokens, andWith, orBytes, andBytes, negations, notBytes}
-use Rattle.clauses.specs.Clauses.{Conditions, Operands, Expects, Ended, State, Wrote, Connects}
+use Rattle.clauses.specs.Clauses.{Operand, Conditions, Expects, Ended, State, Wrote, Connects}
 use Rattle.clauses.specs.declared.Block.{Block}
 use Rattle.clauses.specs.declared.Clause.{Clause}
 use Rattle.words.proofs.WordLaws.{word-first, words-on, word-inside}
+use Rattle.clauses.proofs.ClauseLaws.{operand-forward, operand-writes}
 use Rattle.clauses.proofs.TailLaws.{disjunction-tail, and-bytes, not-more, not-bytes, ends-least}
 
 -- ---- the first word
@@ -167,11 +168,11 @@ module _ (t : List ℕ) (rest : List Token) (final : Condition) (pre out out′ 
       expects-wrote x out′ b same (w .0, rw z (w .1))
 
   state-operand :
-      (b : Block) → (getD t (s .next) 0 ≡ 33 → ⊥) → (getD t (s .next) 0 ≡ 40 → ⊥) → Operands t (s .next) (s .len) out out′ b
+      (b : Block) → (getD t (s .next) 0 ≡ 33 → ⊥) → (getD t (s .next) 0 ≡ 40 → ⊥) → Operand t (s .next) (s .len) out out′ b
       → View t rest final pre out s kOperand → Wrote t rest final pre out′ (s .and) b
   state-operand b e g a (atOperand x) =
       expects-wrote x out′ b same
-      (a (x .first) (tailTokens (x .later) (mark RPAREN ∷ rest)) (opened x) (x .written) e g (x .holds) (expects-room x))
+      (operand-writes a (x .first) (tailTokens (x .later) (mark RPAREN ∷ rest)) (opened x) (x .written) e g (x .holds) (expects-room x))
 
 -- ---- the invariant
 
@@ -248,10 +249,10 @@ module _ {t out out₁ : List ℕ} {at from : ℕ} {s : Clause} (c : Conditionin
 
     pub conditioning-operand :
         (getD t (s .next) 0 ≡ 33 → ⊥) → (getD t (s .next) 0 ≡ 40 → ⊥) → (getD t (s .next) 0 ≡ 41 → ⊥)
-        → (s .next < b .next) × Operands t (s .next) (s .len) out₁ out₂ b → Conditioning t at from out out₃ r
+        → Operand t (s .next) (s .len) out₁ out₂ b → Conditioning t at from out out₃ r
     conditioning-operand e g h a =
         let w = getD t (s .next) 0 in
         let other : kindOf w ≡ kOperand = rw (ne-eqb w 41 h, ne-eqb w 33 e, ne-eqb w 40 g) in
-        conditioning-on out₃ r (omega (arith, a .0, q .0)) (same′ ∙ same) λ rest final pre f x.
+        conditioning-on out₃ r (omega (arith, operand-forward a, q .0)) (same′ ∙ same) λ rest final pre f x.
         q .1 rest final pre f
-        (state-operand t rest final pre out₁ out₂ s same b e g (a .1) (view t rest final pre out₁ s kOperand other x))
+        (state-operand t rest final pre out₁ out₂ s same b e g a (view t rest final pre out₁ s kOperand other x))

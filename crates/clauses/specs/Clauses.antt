@@ -1,21 +1,44 @@
--- The promises of the functions that write a condition (`Conditions`, `Operands`, `Connects`), and where the writing stands between two of
+-- The promises of the functions that write a condition (`Operand`, `Conditions`, `Connects`), and where the writing stands between two of
 -- their calls: a primary or the closing parenthesis is to come (`State`), or a primary was written (`Wrote`). Assumes nothing.
 use mathlib.Core.Path.{_≡_}
-use mathlib.Core.List.{List, _∷_, _++_}
+use mathlib.Core.Bool.{cond}
+use mathlib.Core.List.{List, [], _∷_, _++_}
 use mathlib.Core.Option.{Option}
 use mathlib.Core.Logic.{_⊎_}
-use Prim.Native.Nat.{ℕ, _+_, _≤_}
+use Prim.Native.Nat.{ℕ, _+_, _%_, _≤_}
+use lib.Dec.{eqb, ltb}
 use lib.ListN.{length, drop, getD}
 use Rattle.tsparql.specs.Query.{Condition}
-use Rattle.tsparql.specs.Writing.{conditionBytes}
+use Rattle.tsparql.specs.Writing.{conditionBytes, threeBytes}
 use Rattle.grammar.specs.Tokens.{Token, mark, RPAREN}
 use Rattle.grammar.specs.Grammar.{Disjunction, disjunctionTokens, Primary, primaryTokens}
 use Rattle.grammar.specs.Meaning.{disjunctionOf, primaryOf}
+use Rattle.blocks.specs.Buffers.{buffer, appended}
 use Rattle.blocks.specs.Blocks.{Holds}
 use Rattle.words.specs.Words.{words}
 use Rattle.clauses.specs.Tails.{Tail, tailTokens, andWith, orBytes, andBytes, negations, notBytes, endsAs}
 use Rattle.clauses.specs.declared.Block.{Block}
 use Rattle.clauses.specs.declared.Clause.{Clause}
+
+-- ---- a primary that begins with neither '!' nor '('
+
+-- its bytes, by its words w, op and x: BOUND, '<', '=' before a variable, '=' before a term
+abbrev pub operandBytes : ℕ → ℕ → ℕ → List ℕ
+operandBytes w op x =
+    cond (eqb w 66) (x % 16 ∷ [])
+    (cond (eqb op 60) ((48 + w % 16) ∷ x % 16 ∷ [])
+    (cond (ltb x 2097152) ((16 + w % 16) ∷ x % 16 ∷ []) ((32 + w % 16) ∷ threeBytes (x % 2097152))))
+
+-- the number of its words
+abbrev pub operandWords : ℕ → ℕ
+operandWords w = cond (eqb w 66) 4 3
+
+-- the one whose words begin at i was written behind n bytes, and b is where it ends
+pub record Operand (t : List ℕ) (i n : ℕ) (out out′ : List ℕ) (b : Block) : Type 0 where
+  pub behind : b .next ≡ i + operandWords (getD t i 0)
+  pub bytes : buffer out′ (b .len) ≡ appended (buffer out n) (operandBytes (getD t i 0) (getD t (i + 1) 0) (getD t (i + 2) 0))
+
+-- ---- conditions
 
 -- a condition was written behind `from` bytes, up to and over its closing parenthesis, and b is where it ends; if it fits
 abbrev pub Conditions : List ℕ → ℕ → ℕ → List ℕ → List ℕ → Block → Type 0
@@ -23,14 +46,6 @@ Conditions t at from out out′ b =
     (d : Disjunction) (rest : List Token) (pre : List ℕ) → drop at t ≡ words (disjunctionTokens d (mark RPAREN ∷ rest))
     → Holds out pre from → from + length (conditionBytes (disjunctionOf d)) ≤ length out
     → (drop (b .next) t ≡ words rest) × Holds out′ (pre ++ conditionBytes (disjunctionOf d)) (b .len)
-
--- a primary that begins with neither '!' nor '(' was written behind n bytes, and b is where it ends; if it fits
-abbrev pub Operands : List ℕ → ℕ → ℕ → List ℕ → List ℕ → Block → Type 0
-Operands t i n out out′ b =
-    (p : Primary) (rest : List Token) (pre : List ℕ) → drop i t ≡ words (primaryTokens p rest)
-    → (getD t i 0 ≡ 33 → ⊥) → (getD t i 0 ≡ 40 → ⊥)
-    → Holds out pre n → n + length (conditionBytes (primaryOf p)) ≤ length out
-    → (drop (b .next) t ≡ words rest) × Holds out′ (pre ++ conditionBytes (primaryOf p)) (b .len)
 
 -- a primary is to come: behind what stands before the last `||`, behind what stands before the last `&&`, and behind so many `!`
 pub record Expects (t : List ℕ) (rest : List Token) (final : Condition) (pre out : List ℕ) (s : Clause) : Type 0 where

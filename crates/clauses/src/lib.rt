@@ -1,7 +1,7 @@
 // Query bytes of a condition from the words of its tokens.
 ghost use Prim.Native.Nat.{_+_, _≤_, _<_};
 ghost use lib.ListN.{length};
-ghost use Rattle.clauses.specs.Clauses.{Conditions, Operands, Connects};
+ghost use Rattle.clauses.specs.Clauses.{Operand, Conditions, Connects};
 use blocks::append;
 use blocks::append3;
 use blocks::put;
@@ -31,7 +31,7 @@ pub struct Clause {
 // A primary that begins with neither '!' nor '(': BOUND, '=' or '<'.
 fn operand(t: &[u32], i: usize, out: &mut [u8], n: usize) -> Block
     requires { ⌜ i < length (now t) ⌝ }
-    ensures { λ r. ⌜ (i < r .next) × Operands (now (t .entry)) i n (now (out .entry)) (now (out .exit)) r ⌝ }
+    ensures { λ r. ⌜ Operand (now (t .entry)) i n (now (out .entry)) (now (out .exit)) r ⌝ }
 {
     let w = word(t, i);
     let op = word(t, i + 1);
@@ -60,13 +60,7 @@ fn operand(t: &[u32], i: usize, out: &mut [u8], n: usize) -> Block
         };
     }
     let a = append(out, n, (32 + w % 16) as u8);
-    let m = append3(
-        out,
-        a,
-        (x / 65536 % 32) as u8,
-        (x / 256 % 256) as u8,
-        (x % 256) as u8,
-    );
+    let m = append3(out, a, x);
     Block {
         next: i + 3,
         len: m,

@@ -3,23 +3,25 @@ use mathlib.Core.Path.{_≡_, refl, sym, ap, _∙_, subst}
 use mathlib.Core.Bool.{Bool, true, false, cond}
 use mathlib.Core.List.{List, [], _∷_, _++_, append-assoc, append-nil}
 use mathlib.Core.Option.{none, some}
-use Prim.Native.Nat.{ℕ, _+_, _*_, _-_, _/_, _%_, _≤_, _<_}
+use Prim.Native.Nat.{ℕ, _+_, _*_, _-_, _%_, _≤_, _<_}
 use native.Mathlib.Omega.{arith}
 use lib.ListN.{length, take, drop, getD, set, length-append}
 use lib.Seq.{set-at, take-at}
+use borrow.Author.Tests.{lt-ltb, le-ltb}
 use Rattle.tsparql.specs.Lists.{concatMap}
 use Rattle.tsparql.proofs.ListLaws.{concatMap-append}
 use Rattle.tsparql.specs.Query as Q
 use Rattle.tsparql.specs.Query.{Node, Pattern, patternSet, join, leftJoin, union, projectTrust, ensureTrust}
 use Rattle.tsparql.specs.Writing.{nodeBytes, conditionBytes, patternBytes, threeBytes, slotNumber}
 use Rattle.grammar.proofs.Sizes.{patterns-size}
-use Rattle.grammar.specs.Grammar.{term, variable}
+use Rattle.grammar.specs.Grammar.{Slot, term, variable}
 use Rattle.grammar.specs.Meaning.{isEmptySet, joined, slotOf, patternOf}
+use Rattle.blocks.specs.Buffers.{buffer, appended}
 use Rattle.blocks.specs.Blocks.{Holds, Puts, Exchanges, Appends}
-use Rattle.blocks.proofs.Holding.{holds-split, split-holds, appends-more}
+use Rattle.blocks.proofs.Holding.{holds-split, split-holds, appends, appended-on}
+use Rattle.words.specs.Words.{slotWord}
 use Rattle.words.proofs.WordLaws.{word-at, word-first}
-use Rattle.clauses.proofs.ClauseLaws.{term-bytes}
-use Rattle.parser.specs.Sets.{Unites, Joins, before, Begins, Slots, Adds}
+use Rattle.parser.specs.Sets.{Unites, Joins, before, Begins, slotBytes, Adds}
 
 -- ---- lengths
 
@@ -209,7 +211,7 @@ begins-full out out₁ out₂ from n m r l q same a b pre x e g room = go (isEmp
         let so : 16 ∷ (nodeBytes x ++ (0 ∷ [])) ≡ before x ++ (0 ∷ []) = rw ex in
         subst (λ (y : List ℕ). Holds out₂ (pre ++ y) r) so h₂
 
--- ---- a triple
+-- ---- a byte
 
 -- the byte at h
 holds-set :
@@ -223,29 +225,29 @@ holds-set out pre rest h v a n e g =
     let size : n ≡ length (pre ++ (v ∷ rest)) = omega (arith, length-append pre (a ∷ rest), length-append pre (v ∷ rest)) in
     record { size = size; front = ap (λ (x : List ℕ). take n x) so ∙ take-at (pre ++ (v ∷ rest)) D n (sym size) }
 
-pub slots-variable :
-    (t : List ℕ) (i : ℕ) (out out′ : List ℕ) (n r w : ℕ) → w ≡ getD t i 0 → w < 2097152
-    → Appends out out′ n (16 ∷ 0 ∷ w % 256 ∷ []) r
-    → Slots t i out out′ n r
-slots-variable t i out out′ n r w e l a (term x) f = absurd (omega arith)
-slots-variable t i out out′ n r w e l a (variable v) f =
-    let s = v .small in
-    let p : 16 ≡ (1048576 + v .name) / 65536 = omega arith in
-    let q : 0 ≡ (1048576 + v .name) / 256 % 256 = omega arith in
-    let z : w % 256 ≡ (1048576 + v .name) % 256 = omega arith in
-    let so : 16 ∷ 0 ∷ w % 256 ∷ [] ≡ threeBytes (1048576 + v .name) =
-    ap (λ (c : ℕ). c ∷ 0 ∷ w % 256 ∷ []) p ∙ ap (λ (c : ℕ). (1048576 + v .name) / 65536 ∷ c ∷ w % 256 ∷ []) q
-    ∙ ap (λ (c : ℕ). (1048576 + v .name) / 65536 ∷ (1048576 + v .name) / 256 % 256 ∷ c ∷ []) z in
-    subst (λ (l : List ℕ). Appends out out′ n l r) so a
+-- ---- slots
 
-pub slots-term :
-    (t : List ℕ) (i : ℕ) (out out′ : List ℕ) (n r w : ℕ) → w ≡ getD t i 0 → 2097152 ≤ w
-    → Appends out out′ n (w / 65536 % 32 ∷ w / 256 % 256 ∷ w % 256 ∷ []) r → Slots t i out out′ n r
-slots-term t i out out′ n r w e l a (variable v) f = let s = v .small in absurd (omega arith)
-slots-term t i out out′ n r w e l a (term x) f =
-    let q = term-bytes w (x .number) (e ∙ f) (x .most) in
-    let so : w / 65536 % 32 ∷ w / 256 % 256 ∷ w % 256 ∷ [] ≡ threeBytes (x .number) = rw (q .0, q .1 .0, q .1 .1) in
-    subst (λ (l : List ℕ). Appends out out′ n l r) so a
+-- the number that `slot` writes of a variable, and of a term
+pub bytes-variable : (w : ℕ) → w < 2097152 → threeBytes ((1048576 + w % 256) % 2097152) ≡ slotBytes w
+bytes-variable w l =
+    let same : (1048576 + w % 256) % 2097152 ≡ 1048576 + w % 256 = omega arith in
+    ap threeBytes (same ∙ sym (rw (lt-ltb w 2097152 l)))
+
+pub bytes-term : (w : ℕ) → 2097152 ≤ w → threeBytes (w % 2097152) ≡ slotBytes w
+bytes-term w l = sym (rw (le-ltb w 2097152 l))
+
+-- they are the bytes of the slot whose word it is
+slot-bytes : (x : Slot) → slotBytes (slotWord x) ≡ threeBytes (slotNumber (slotOf x))
+slot-bytes (variable v) =
+    let s = v .small in
+    let name : (256 + v .name) % 256 ≡ v .name = omega arith in
+    rw (lt-ltb (256 + v .name) 2097152 (omega arith), name)
+slot-bytes (term x) =
+    let m = x .most in
+    let number : (2097152 + x .number) % 2097152 ≡ x .number = omega arith in
+    rw (le-ltb (2097152 + x .number) 2097152 (omega arith), number)
+
+-- ---- a triple
 
 set-more :
     (ps : List Pattern) (p : Pattern)
@@ -257,13 +259,17 @@ set-more ps p =
     concatMap-append patternBytes ps (p ∷ []) ∙ ap (λ (l : List ℕ). concatMap patternBytes ps ++ l) (append-nil (patternBytes p)) in
     ap (λ (c : ℕ). c ∷ concatMap patternBytes (ps ++ (p ∷ []))) n ∙ ap (λ (l : List ℕ). (length ps + 1) ∷ l) all
 
+three-parts : {a b c a′ b′ c′ : List ℕ} → a ≡ a′ → b ≡ b′ → c ≡ c′ → (a ++ b) ++ c ≡ a′ ++ (b′ ++ c′)
+three-parts {a} {b} {c} {a′} {b′} {c′} p q r = append-assoc a b c ∙ rw (p, q, r)
+
 pub adds :
-    (t : List ℕ) (i : ℕ) (out out₀ out₁ out₂ out₃ : List ℕ) (n run a b r : ℕ) → length out₀ ≡ length out → length out₁ ≡ length out₀
-    → length out₂ ≡ length out₁ → 9 * run < n → out₀ ≡ set out (n - 1 - 9 * run) (run + 1) → Slots t i out₀ out₁ n a
-    → Slots t (i + 1) out₁ out₂ a b → Slots t (i + 2) out₂ out₃ b r
+    (t : List ℕ) (i : ℕ) (out out₀ out₁ out₂ out₃ : List ℕ) (n run a b r : ℕ) → length out₀ ≡ length out → 9 * run < n
+    → out₀ ≡ set out (n - 1 - 9 * run) (run + 1) → buffer out₁ a ≡ appended (buffer out₀ n) (slotBytes (getD t i 0))
+    → buffer out₂ b ≡ appended (buffer out₁ a) (slotBytes (getD t (i + 1) 0))
+    → buffer out₃ r ≡ appended (buffer out₂ b) (slotBytes (getD t (i + 2) 0))
     → Adds t i out out₃ n run r
 unfolding nodeBytes patternBytes
-adds t i out out₀ out₁ out₂ out₃ n run a b r s₀ s₁ s₂ z m p q w pre ps x y v rest e few f g room =
+adds t i out out₀ out₁ out₂ out₃ n run a b r s₀ z m p q w pre ps x y v rest e few f g room =
     let size = g .size in
     let k = patterns-size ps in
     let P = concatMap patternBytes ps in
@@ -271,12 +277,12 @@ adds t i out out₀ out₁ out₂ out₃ n run a b r s₀ s₁ s₂ z m p q w pr
     let place : length pre ≡ n - 1 - 9 * run = omega (arith, length-append pre ((0 + length ps) ∷ P)) in
     let count = holds-set out pre P (n - 1 - 9 * run) (run + 1) (0 + length ps) n place g in
     let h₀ = subst (λ (l : List ℕ). Holds l (pre ++ ((run + 1) ∷ P)) n) (sym m) count in
-    let X = threeBytes (slotNumber (slotOf x)) in
-    let Y = threeBytes (slotNumber (slotOf y)) in
-    let Z = threeBytes (slotNumber (slotOf v)) in
-    let last = appends-more out₁ out₂ out₃ Y Z a b r s₂ (q y (word-at t _ i 1 f)) (w v (word-at t _ i 2 f)) in
-    let all = appends-more out₀ out₁ out₃ X (Y ++ Z) n a r s₁ (p x (word-first t _ i _ f)) last in
-    let h = all (pre ++ ((run + 1) ∷ P)) h₀ (omega arith) in
+    let X : slotBytes (getD t i 0) ≡ threeBytes (slotNumber (slotOf x)) = ap slotBytes (word-first t _ i _ f) ∙ slot-bytes x in
+    let Y : slotBytes (getD t (i + 1) 0) ≡ threeBytes (slotNumber (slotOf y)) = ap slotBytes (word-at t _ i 1 f) ∙ slot-bytes y in
+    let Z : slotBytes (getD t (i + 2) 0) ≡ threeBytes (slotNumber (slotOf v)) = ap slotBytes (word-at t _ i 2 f) ∙ slot-bytes v in
+    let three = appended-on _ _ (buffer out₀ n) (appended-on _ _ (buffer out₀ n) p q) w in
+    let all : buffer out₃ r ≡ appended (buffer out₀ n) B = three ∙ ap (appended (buffer out₀ n)) (three-parts X Y Z) in
+    let h = appends B all (pre ++ ((run + 1) ∷ P)) h₀ (omega arith) in
     let flat : (pre ++ ((run + 1) ∷ P)) ++ B ≡ pre ++ nodeBytes (patternSet (ps ++ (patternOf x y v ∷ []))) =
     append-assoc pre ((run + 1) ∷ P) B
     ∙ ap (λ (c : ℕ). pre ++ ((c + 1) ∷ (P ++ B))) e

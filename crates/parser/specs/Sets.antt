@@ -3,13 +3,14 @@ use mathlib.Core.Path.{_≡_}
 use mathlib.Core.Bool.{cond}
 use mathlib.Core.List.{List, [], _∷_, _++_}
 use mathlib.Core.Option.{Option, none, some}
-use Prim.Native.Nat.{ℕ, _+_, _≤_, _<_}
-use lib.ListN.{length, drop, getD}
+use Prim.Native.Nat.{ℕ, _+_, _%_, _≤_, _<_}
+use lib.Dec.{ltb}
+use lib.ListN.{length, drop}
 use Rattle.tsparql.specs.Query.{Node, Pattern, patternSet, union}
-use Rattle.tsparql.specs.Writing.{nodeBytes, threeBytes, slotNumber}
+use Rattle.tsparql.specs.Writing.{nodeBytes, threeBytes}
 use Rattle.grammar.specs.Grammar.{Slot}
-use Rattle.grammar.specs.Meaning.{isEmptySet, joined, slotOf, patternOf}
-use Rattle.blocks.specs.Blocks.{Holds, Appends}
+use Rattle.grammar.specs.Meaning.{isEmptySet, joined, patternOf}
+use Rattle.blocks.specs.Blocks.{Holds}
 use Rattle.words.specs.Words.{slotWord}
 
 -- ---- nodes
@@ -48,9 +49,9 @@ Begins out out′ from n r =
 
 -- ---- triples
 
--- the bytes of the slot whose word stands at i
-abbrev pub Slots : List ℕ → ℕ → List ℕ → List ℕ → ℕ → ℕ → Type 0
-Slots t i out out′ n r = (x : Slot) → getD t i 0 ≡ slotWord x → Appends out out′ n (threeBytes (slotNumber (slotOf x))) r
+-- a slot's bytes, from its word
+abbrev pub slotBytes : ℕ → List ℕ
+slotBytes w = threeBytes (cond (ltb w 2097152) (1048576 + w % 256) (w % 2097152))
 
 -- the triple whose words stand at i is in the set that stands last
 abbrev pub Adds : List ℕ → ℕ → List ℕ → List ℕ → ℕ → ℕ → ℕ → Type 0

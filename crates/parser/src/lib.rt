@@ -6,8 +6,9 @@ ghost use mathlib.Core.Path.{_≡_};
 ghost use Prim.Native.Nat.{_≤_, _<_};
 ghost use lib.Dec.{eqb, leb};
 ghost use lib.ListN.{length, getD, set};
+ghost use Rattle.blocks.specs.Buffers.{buffer, appended};
 ghost use Rattle.words.specs.Links.{Linked};
-ghost use Rattle.parser.specs.Sets.{Unites, Joins, Begins, Slots, Adds};
+ghost use Rattle.parser.specs.Sets.{Unites, Joins, Begins, slotBytes, Adds};
 ghost use Rattle.parser.specs.Stages.{bodyPlace, Triples, Passes, Closes, Gathers};
 use blocks::append;
 use blocks::append3;
@@ -82,21 +83,18 @@ fn mark(out: &mut [u8], h: usize, v: u8)
     }
 }
 
+// The kind of a variable, in a slot's 24 bits.
+const VARIABLE_SLOT: u32 = 1048576;
+
 // A slot behind the end.
 fn slot(t: &[u32], i: usize, out: &mut [u8], n: usize) -> usize
-    ensures { λ r. ⌜ Slots (now (t .entry)) i (now (out .entry)) (now (out .exit)) n r ⌝ }
+    ensures { λ r. ⌜ buffer (now (out .exit)) r ≡ appended (buffer (now (out .entry)) n) (slotBytes (getD (now (t .entry)) i 0)) ⌝ }
 {
     let x = word(t, i);
     if x < FIRST_NUMBER {
-        return append3(out, n, 16, 0, (x % 256) as u8);
+        return append3(out, n, VARIABLE_SLOT + x % 256);
     }
-    append3(
-        out,
-        n,
-        (x / 65536 % 32) as u8,
-        (x / 256 % 256) as u8,
-        (x % 256) as u8,
-    )
+    append3(out, n, x)
 }
 
 // A triple into the set of `run` triples that stands last.

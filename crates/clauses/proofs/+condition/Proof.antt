@@ -4,6 +4,7 @@ use native.Mathlib.Omega.{arith}
 use lib.ListN.{length}
 use Rattle.clauses.specs.declared.Block.{Block}
 use Rattle.clauses.proofs.ConditionLaws.{Conditioning, conditioning-first, conditioning-none, conditioning-end}
+use Rattle.clauses.proofs.ClauseLaws.{operand-forward}
 use Rattle.clauses.proofs.ConditionLaws.{conditioning-not, conditioning-parens, conditioning-operand}
 use borrow.Author.Needs.{needs}
 use Prim.Native.Nat.{ℕ, _-_, _<_}
@@ -120,7 +121,9 @@ module _ (t : ℕ) where
   connect-requires-2 c κs = search needs
 
   loop-less-3 : lts.Need-loop-less-3 (calls t) (at t) condition.Post Inv-loop μ-loop
-  loop-less-3 c = search needs
+  loop-less-3 c =
+      let onward = operand-forward (c .before .before .before .before .before .before .operand .ensures) in
+      search needs
 
   loop-again-3 : lts.Need-loop-again-3 (calls t) (at t) condition.Post Inv-loop μ-loop
   loop-again-3 c =

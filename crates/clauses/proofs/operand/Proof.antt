@@ -1,6 +1,5 @@
 -- By the first three words of the primary: each return is one law. Assumes nothing.
-use Rattle.blocks.proofs.Holding.{appends}
-use Rattle.blocks.proofs.Holding.{appends-more}
+use Rattle.blocks.proofs.Holding.{appended-on}
 use Rattle.clauses.proofs.ClauseLaws.{operand-bound, operand-less, operand-same, operand-term}
 use borrow.Author.Needs.{needs}
 use Rattle.clauses.proofs.operand.Statement.{statement}
@@ -38,11 +37,9 @@ returns c =
     let call = c .before .before in
     let bound = call .before .before in
     let first = bound .before .before .before in
-    let a = first .before .before .before .args in (
-      search needs,
-      operand-bound (a .t .now) _ _ (a .i) _ _ _ _ _ (first .word .ensures) (bound .before .before .word2 .ensures)
-          (bound .before .word3 .ensures) (bound .if1 .taken) (appends _ (call .append .ensures)),
-    )
+    let a = first .before .before .before .args in
+    operand-bound (a .t .now) _ _ (a .i) _ _ _ _ _ (first .word .ensures) (bound .before .before .word2 .ensures)
+    (bound .before .word3 .ensures) (bound .if1 .taken) (call .append .ensures)
 
 add-append : tie.Need-add-append
 add-append c = search needs
@@ -73,12 +70,9 @@ returns-2 c =
     let bound = less .before in
     let first = bound .before .before .before in
     let a = first .before .before .before .args in
-    let bytes = appends-more _ _ _ _ _ _ _ _ (one .append2 .kept .0) (appends _ (one .append2 .ensures))
-    (appends _ (two .append3 .ensures)) in (
-      search needs,
-      operand-less (a .t .now) _ _ (a .i) _ _ _ _ _ (first .word .ensures) (bound .before .before .word2 .ensures)
-          (bound .before .word3 .ensures) (bound .if1 .left) (less .if2 .taken) bytes,
-    )
+    let bytes = appended-on _ _ _ (one .append2 .ensures) (two .append3 .ensures) in
+    operand-less (a .t .now) _ _ (a .i) _ _ _ _ _ (first .word .ensures) (bound .before .before .word2 .ensures)
+    (bound .before .word3 .ensures) (bound .if1 .left) (less .if2 .taken) bytes
 
 add-append-2 : tie.Need-add-append-2
 add-append-2 c = search needs
@@ -109,12 +103,9 @@ returns-3 c =
     let bound = less .before in
     let first = bound .before .before .before in
     let a = first .before .before .before .args in
-    let bytes = appends-more _ _ _ _ _ _ _ _ (one .append4 .kept .0) (appends _ (one .append4 .ensures))
-    (appends _ (two .append5 .ensures)) in (
-      search needs,
-      operand-same (a .t .now) _ _ (a .i) _ _ _ _ _ (first .word .ensures) (bound .before .before .word2 .ensures)
-          (bound .before .word3 .ensures) (bound .if1 .left) (less .if2 .left) (one .before .before .if3 .taken) bytes,
-    )
+    let bytes = appended-on _ _ _ (one .append4 .ensures) (two .append5 .ensures) in
+    operand-same (a .t .now) _ _ (a .i) _ _ _ _ _ (first .word .ensures) (bound .before .before .word2 .ensures)
+    (bound .before .word3 .ensures) (bound .if1 .left) (less .if2 .left) (one .before .before .if3 .taken) bytes
 
 add-append-3 : tie.Need-add-append-3
 add-append-3 c = search needs
@@ -124,15 +115,6 @@ cast-append-6 c = search needs
 
 append-requires-6 : tie.Need-append-requires-6
 append-requires-6 c κs = search needs
-
-cast-append3 : tie.Need-cast-append3
-cast-append3 c = search needs
-
-cast-append3-2 : tie.Need-cast-append3-2
-cast-append3-2 c = search needs
-
-cast-append3-3 : tie.Need-cast-append3-3
-cast-append3-3 c = search needs
 
 append3-requires : tie.Need-append3-requires
 append3-requires c κs = search needs
@@ -151,12 +133,9 @@ returns-4 c =
     let bound = less .before in
     let first = bound .before .before .before in
     let a = first .before .before .before .args in
-    let bytes = appends-more _ _ _ _ _ _ _ _ (one .append6 .kept .0) (appends _ (one .append6 .ensures))
-    (appends _ (two .append32 .ensures)) in (
-      search needs,
-      operand-term (a .t .now) _ _ (a .i) _ _ _ _ _ (first .word .ensures) (bound .before .before .word2 .ensures)
-          (bound .before .word3 .ensures) (bound .if1 .left) (less .if2 .left) (search needs) bytes,
-    )
+    let bytes = appended-on _ _ _ (one .append6 .ensures) (two .append32 .ensures) in
+    operand-term (a .t .now) _ _ (a .i) _ _ _ _ _ (first .word .ensures) (bound .before .before .word2 .ensures)
+    (bound .before .word3 .ensures) (bound .if1 .left) (less .if2 .left) (search needs) bytes
 
 pub operand-spec : {M : Type 1} → statement M
 operand-spec =
@@ -191,9 +170,6 @@ operand-spec =
     add-append-3
     cast-append-6
     append-requires-6
-    cast-append3
-    cast-append3-2
-    cast-append3-3
     append3-requires
     add-t15
     same-length-4

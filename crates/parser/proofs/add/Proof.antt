@@ -56,7 +56,7 @@ returns-3 c =
     let one = two .before .before .before .before in
     let zero = one .before .before .before .before in
     let a = zero .before .before .before .before .before .before .args in
-    adds (a .t .now) (a .i) _ _ _ _ _ _ _ _ _ _ (zero .mark .kept .0) (one .slot .kept .1 .1 .0) (two .slot2 .kept .1 .1 .0) (search needs)
+    adds (a .t .now) (a .i) _ _ _ _ _ _ _ _ _ _ (zero .mark .kept .0) (search needs)
     (zero .mark .ensures) (one .slot .ensures) (two .slot2 .ensures) (three .slot3 .ensures)
 
 pub add-spec : {M : Type 1} → statement M
