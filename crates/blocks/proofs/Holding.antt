@@ -12,7 +12,7 @@ use lib.Dec.{leb}
 use borrow.Author.Tests.{le-leb, lt-leb, lt-ltb}
 use Rattle.bytes.specs.Bytes.{rev, slice}
 use Rattle.bytes.proofs.Laws.{rev-rev-append}
-use Rattle.blocks.specs.Buffers.{Buffer, buffer, shifted, inserted, appended, exchanged}
+use Rattle.blocks.specs.Buffers.{Buffer, buffer, shifted, inserted, prepended, appended, exchanged}
 use Rattle.blocks.specs.Blocks.{Holds, Puts, Appends, Exchanges}
 
 -- the bytes that are held, and the rest of the buffer
@@ -61,14 +61,6 @@ holds-insert l pre bs i e v p r h =
 abbrev HoldsTo : List ℕ → Buffer → Type 0
 HoldsTo bs b = Holds (b .bytes) bs (b .end)
 
-pub puts : (v : ℕ) {l l′ : List ℕ} {i e r : ℕ} → buffer l′ r ≡ inserted (buffer l e) i v → Puts l l′ i e v r
-unfolding inserted
-puts v {l} {l′} {i} {e} {r} w pre bs p h room =
-    let s = h .size in
-    let k : i ≤ e = omega (arith, length-append pre bs) in
-    let so : buffer l′ r ≡ buffer (shifted l i e v) (e + 1) = w ∙ rw (le-leb i e k, lt-ltb e (length l) room) in
-    subst (HoldsTo (pre ++ (v ∷ bs))) (sym so) (holds-insert l pre bs i e v p room h)
-
 length-shifted : (l : List ℕ) (i e v : ℕ) → i ≤ e → e < length l → length (shifted l i e v) ≡ length l
 length-shifted l i e v h r =
     let m : length (take i l) ≡ i = length-take-le i l (omega arith) in
@@ -76,14 +68,50 @@ length-shifted l i e v h r =
     let c = take (e - i) (drop i l) ++ drop (e + 1) l in
     omega (arith, m, k, length-append (take i l) (v ∷ c), length-append (take (e - i) (drop i l)) (drop (e + 1) l), length-drop (e + 1) l)
 
+inserted-shifted :
+    (b : Buffer) (i v : ℕ) → i ≤ b .end → b .end < length (b .bytes)
+    → inserted b i v ≡ buffer (shifted (b .bytes) i (b .end) v) (b .end + 1)
+unfolding inserted
+inserted-shifted b i v k r = rw (le-leb i (b .end) k, lt-ltb (b .end) (length (b .bytes)) r)
+
+-- bytes in front of the last block, which began at i
+module _ (pre bs : List ℕ) {l : List ℕ} {i e : ℕ} (p : length pre ≡ i) (h : Holds l (pre ++ bs) e) where
+  prepending :
+      (vs : List ℕ) → e + length vs ≤ length l
+      → (length (prepended (buffer l e) i vs .bytes) ≡ length l) × HoldsTo (pre ++ (vs ++ bs)) (prepended (buffer l e) i vs)
+  unfolding prepended
+  prepending [] room = (refl, h)
+  prepending (v ∷ vs) room =
+      let more = prepending vs (omega arith) in
+      let b = prepended (buffer l e) i vs in
+      let s = h .size in
+      let s₁ = more .1 .size in
+      let k : i ≤ b .end = omega (arith, length-append pre (vs ++ bs)) in
+      let r : b .end < length (b .bytes) =
+      omega (arith, more .0, length-append pre (vs ++ bs), length-append vs bs, length-append pre bs) in
+      let so = inserted-shifted b i v k r in
+      let same = length-shifted (b .bytes) i (b .end) v k r ∙ more .0 in (
+        ap (λ (x : Buffer). length (x .bytes)) so ∙ same,
+        subst (HoldsTo (pre ++ (v ∷ (vs ++ bs)))) (sym so) (holds-insert (b .bytes) pre (vs ++ bs) i (b .end) v p r (more .1)),
+      )
+
+  pub prepends :
+      (vs : List ℕ) {l′ : List ℕ} {r : ℕ} → buffer l′ r ≡ prepended (buffer l e) i vs → e + length vs ≤ length l
+      → Holds l′ (pre ++ (vs ++ bs)) r
+  prepends vs w room = subst (HoldsTo (pre ++ (vs ++ bs))) (sym w) (prepending vs room .1)
+
+pub puts : (v : ℕ) {l l′ : List ℕ} {i e r : ℕ} → buffer l′ r ≡ inserted (buffer l e) i v → Puts l l′ i e v r
+unfolding prepended
+puts v w pre bs p h room = prepends pre bs p h (v ∷ []) w (omega arith)
+
 pub appends : (bs : List ℕ) {l l′ : List ℕ} {e r : ℕ} → buffer l′ r ≡ appended (buffer l e) bs → Appends l l′ e bs r
-unfolding inserted appended
+unfolding appended
 appends [] {l} {l′} {e} {r} w pre h room =
     subst (HoldsTo (pre ++ [])) (sym w) (subst (λ (x : List ℕ). Holds l x e) (sym (append-nil pre)) h)
 appends (v ∷ bs) {l} {l′} {e} {r} w pre h room =
     let s = h .size in
     let k : e < length l = omega arith in
-    let fits : inserted (buffer l e) e v ≡ buffer (shifted l e e v) (e + 1) = rw (le-leb e e (omega arith), lt-ltb e (length l) k) in
+    let fits = inserted-shifted (buffer l e) e v (omega arith) k in
     let one : Holds (shifted l e e v) (pre ++ (v ∷ [])) (e + 1) =
     holds-insert l pre [] e e v (sym s) k (subst (λ (x : List ℕ). Holds l x e) (sym (append-nil pre)) h) in
     let more = appends bs (w ∙ ap (λ (b : Buffer). appended b bs) fits) (pre ++ (v ∷ [])) one

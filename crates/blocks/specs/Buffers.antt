@@ -1,5 +1,5 @@
--- A buffer in use up to an end, after a byte came in (`inserted`), after bytes came behind the end (`appended`), and after two neighbouring
--- parts changed places (`exchanged`). Assumes nothing.
+-- A buffer in use up to an end, after a byte or bytes came in (`inserted`, `prepended`), after bytes came behind the end (`appended`), and
+-- after two neighbouring parts changed places (`exchanged`). Assumes nothing.
 use mathlib.Core.Bool.{Bool, cond, _&&_}
 use mathlib.Core.List.{List, [], _∷_, _++_}
 use Prim.Native.Nat.{ℕ, _+_, _-_}
@@ -25,6 +25,11 @@ shifted l i e v = take i l ++ v ∷ (take (e - i) (drop i l) ++ drop (e + 1) l)
 -- v comes in at i; nothing changes where there is no room
 unfoldable pub inserted : Buffer → ℕ → ℕ → Buffer
 inserted b i v = cond (hasRoom i (b .end) (length (b .bytes))) (buffer (shifted (b .bytes) i (b .end) v) (b .end + 1)) b
+
+-- bytes come in at i, the last one first
+unfoldable pub prepended : Buffer → ℕ → List ℕ → Buffer
+prepended b i [] = b
+prepended b i (v ∷ vs) = inserted (prepended b i vs) i v
 
 -- bytes come behind the end, one after the other
 unfoldable pub appended : Buffer → List ℕ → Buffer

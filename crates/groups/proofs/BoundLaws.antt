@@ -2,16 +2,20 @@
 -- (`bound-turn`); the value of a bound's word. Assumes nothing.
 use mathlib.Core.Path.{_≡_, refl, sym, ap, _∙_, subst}
 use mathlib.Core.List.{List, [], _∷_, _++_}
-use Prim.Native.Nat.{ℕ, _+_, _*_, _-_, _/_, _%_, _≤_, _<_}
+use Prim.Native.Nat.{ℕ, _+_, _*_, _-_, _%_, _≤_, _<_}
 use native.Mathlib.Omega.{arith}
 use lib.ListN.{length, drop, getD, length-append}
+use borrow.Author.Tests.{lt-ltb, le-ltb}
 use Rattle.tsparql.specs.Query.{Node, ensureTrust}
 use Rattle.tsparql.specs.Writing.{nodeBytes, threeBytes}
-use Rattle.grammar.specs.Grammar.{plus, minus}
+use Rattle.grammar.specs.Grammar.{Thousandths, plus, minus}
 use Rattle.grammar.specs.Meaning.{Item, aTriple, aGroup, anOptional, aFilter, aProjection, aBound, bounded, valueOf}
-use Rattle.blocks.specs.Blocks.{Holds, Puts}
+use Rattle.blocks.specs.Buffers.{buffer, prepended}
+use Rattle.blocks.specs.Blocks.{Holds}
+use Rattle.blocks.proofs.Holding.{prepends}
+use Rattle.words.specs.Words.{thousandthsWord}
 use Rattle.words.proofs.WordLaws.{word-at}
-use Rattle.groups.specs.Passes.{BoundOf, Puts4}
+use Rattle.groups.specs.Passes.{boundIn}
 use Rattle.groups.proofs.Fronts.{Walks, kBound, View, atBound, first-word, view-at, view-over, nextItem}
 use Rattle.groups.proofs.Passing.{Made, Turn, itemWord}
 
@@ -42,36 +46,23 @@ bounded-least (aBound l u ∷ is) x = let h = bounded-least is (ensureTrust l u 
 
 -- ---- the value of a bound
 
-pub thousands-plus : (w : ℕ) → w < 4194304 → BoundOf w (1000 + w % 1048576 % 1001)
-thousands-plus w h (plus n x) e = omega arith
-thousands-plus w h (minus n x y) e = absurd (omega arith)
+pub thousands-plus : (w : ℕ) → w < 4194304 → 1000 + w % 1048576 % 1001 ≡ boundIn w
+thousands-plus w h = sym (rw (lt-ltb w 4194304 h))
 
-pub thousands-minus : (w : ℕ) → 4194304 ≤ w → BoundOf w (1000 - w % 1048576 % 1001)
-thousands-minus w h (plus n x) e = absurd (omega arith)
-thousands-minus w h (minus n x y) e = omega arith
+pub thousands-minus : (w : ℕ) → 4194304 ≤ w → 1000 - w % 1048576 % 1001 ≡ boundIn w
+thousands-minus w h = sym (rw (le-ltb w 4194304 h))
 
--- ---- its bytes
+-- it is the one whose word it is
+bound-value : (l : Thousandths) → boundIn (thousandthsWord l) ≡ valueOf l
+bound-value (plus n x) = rw (lt-ltb (2097152 + n) 4194304 (omega arith)) (omega arith)
+bound-value (minus n x y) = rw (le-ltb (4194304 + n) 4194304 (omega arith)) (omega arith)
 
-pub puts-four :
-    (l l₁ l₂ l₃ l′ : List ℕ) (i e x a b c r : ℕ) → length l₁ ≡ length l → length l₂ ≡ length l₁ → length l₃ ≡ length l₂
-    → Puts l l₁ i e (x % 256) a → Puts l₁ l₂ i a (x / 256 % 256) b → Puts l₂ l₃ i b (x / 65536) c → Puts l₃ l′ i c 96 r
-    → Puts4 l l′ i e x r
-puts-four l l₁ l₂ l₃ l′ i e x a b c r s₁ s₂ s₃ p₁ p₂ p₃ p₄ pre bs z h room =
-    let n = h .size in
-    let h₁ = p₁ pre bs z h (omega arith) in
-    let n₁ = h₁ .size in
-    let k₁ : a ≡ e + 1 = omega (arith, length-append pre bs, length-append pre (x % 256 ∷ bs)) in
-    let h₂ = p₂ pre _ z h₁ (omega arith) in
-    let n₂ = h₂ .size in
-    let k₂ : b ≡ e + 2 = omega (arith, length-append pre bs, length-append pre (x / 256 % 256 ∷ x % 256 ∷ bs)) in
-    let h₃ = p₃ pre _ z h₂ (omega arith) in
-    let n₃ = h₃ .size in
-    let k₃ : c ≡ e + 3 = omega (arith, length-append pre bs, length-append pre (x / 65536 ∷ x / 256 % 256 ∷ x % 256 ∷ bs)) in
-    p₄ pre _ z h₃ (omega arith)
+-- ---- a turn
 
 pub bound-turn :
     (t : List ℕ) (from : ℕ) (out out′ : List ℕ) (i j n n′ w w′ a b : ℕ) → getD t i 0 ≡ 69 → w ≡ getD t (i + 3) 0 → w′ ≡ getD t (i + 5) 0
-    → BoundOf w a → BoundOf w′ b → Puts4 out out′ from n (4096 * a + b) n′ → drop j t ≡ nextItem (drop i t)
+    → a ≡ boundIn w → b ≡ boundIn w′ → buffer out′ n′ ≡ prepended (buffer out n) from (96 ∷ threeBytes (4096 * a + b))
+    → drop j t ≡ nextItem (drop i t)
     → Turn Node bounded nodeBytes t from out out′ i j n n′
 unfolding bounded nodeBytes
 bound-turn t from out out′ i j n n′ w w′ a b c x₁ x₂ lower upper put s is rest pre y walks start held room =
@@ -79,12 +70,12 @@ bound-turn t from out out′ i j n n′ w w′ a b c x₁ x₂ lower upper put s
   where
     go : View (drop i t) is rest kBound → Made Node bounded nodeBytes t rest pre (bounded y is) out′ j n′
     go (atBound l u ts later e q f) =
-        let ea = lower l (x₁ ∙ word-at t _ i 3 e) in
-        let eb = upper u (x₂ ∙ word-at t _ i 5 e) in
+        let ea = lower ∙ ap boundIn (x₁ ∙ word-at t _ i 3 e) ∙ bound-value l in
+        let eb = upper ∙ ap boundIn (x₂ ∙ word-at t _ i 5 e) ∙ bound-value u in
         let size = held .size in
         let least = bounded-least later (ensureTrust (valueOf l) (valueOf u) y) in
         let fits = ap (λ (js : List Item). length (nodeBytes (bounded y js))) q in
-        let front = put pre (nodeBytes y) (sym start) held (omega (arith, length-append pre (nodeBytes y))) in
+        let front = prepends pre (nodeBytes y) (sym start) held _ put (omega (arith, length-append pre (nodeBytes y))) in
         record {
           later = later;
           now = ensureTrust (valueOf l) (valueOf u) y;

@@ -1,18 +1,19 @@
 -- What the passes over a group promise. Each is about every body whose words stand at a place, and about the last block of a buffer, which
 -- begins behind `pre`. Assumes nothing.
 use mathlib.Core.Path.{_≡_}
-use mathlib.Core.Bool.{true}
+use mathlib.Core.Bool.{true, cond}
 use mathlib.Core.List.{List, [], _∷_, _++_}
 use mathlib.Core.Option.{Option, none, some}
-use Prim.Native.Nat.{ℕ, _+_, _≤_}
+use Prim.Native.Nat.{ℕ, _+_, _-_, _%_, _≤_}
+use lib.Dec.{ltb}
 use lib.ListN.{length, drop}
 use Rattle.tsparql.specs.Query.{Condition, patternSet}
-use Rattle.tsparql.specs.Writing.{nodeBytes, conditionBytes, threeBytes}
+use Rattle.tsparql.specs.Writing.{nodeBytes, conditionBytes}
 use Rattle.grammar.specs.Tokens.{Token}
-use Rattle.grammar.specs.Grammar.{Thousandths, Body, bodyTokens}
-use Rattle.grammar.specs.Meaning.{valueOf, Item, gathered, filters, conjoined, condition, unfiltered, groupNode, items}
+use Rattle.grammar.specs.Grammar.{Body, bodyTokens}
+use Rattle.grammar.specs.Meaning.{Item, gathered, filters, conjoined, condition, unfiltered, groupNode, items}
 use Rattle.blocks.specs.Blocks.{Holds}
-use Rattle.words.specs.Words.{words, thousandthsWord}
+use Rattle.words.specs.Words.{words}
 use Rattle.groups.specs.declared.Halves.{Halves}
 
 -- the words of the body b stand at a place, and then those of rest
@@ -74,11 +75,6 @@ Splits t at from out out′ n r =
 
 -- ---- bounds
 
--- the word of a bound, and the bound plus 1000
-abbrev pub BoundOf : ℕ → ℕ → Type 0
-BoundOf w r = (l : Thousandths) → w ≡ thousandthsWord l → r ≡ valueOf l
-
--- the byte of ensure trust and three more stand in front of the last block, which began at i
-abbrev pub Puts4 : List ℕ → List ℕ → ℕ → ℕ → ℕ → ℕ → Type 0
-Puts4 l l′ i e x r =
-    (pre bs : List ℕ) → length pre ≡ i → Holds l (pre ++ bs) e → e + 4 ≤ length l → Holds l′ (pre ++ (96 ∷ (threeBytes x ++ bs))) r
+-- a bound plus 1000, from its word
+abbrev pub boundIn : ℕ → ℕ
+boundIn w = cond (ltb w 4194304) (1000 + w % 1048576 % 1001) (1000 - w % 1048576 % 1001)

@@ -1,13 +1,15 @@
 // The passes over a group's items: its projections, its bounds and its filters around what is joined in it.
+ghost use mathlib.Core.List.{_∷_};
 ghost use mathlib.Core.Path.{_≡_};
 ghost use Prim.Native.Nat.{_≤_, _<_};
 ghost use lib.ListN.{length};
 ghost use Rattle.tsparql.specs.Query.{Node};
-ghost use Rattle.tsparql.specs.Writing.{nodeBytes};
+ghost use Rattle.tsparql.specs.Writing.{nodeBytes, threeBytes};
 ghost use Rattle.grammar.specs.Meaning.{projected, bounded};
+ghost use Rattle.blocks.specs.Buffers.{buffer, prepended};
 ghost use Rattle.words.specs.Links.{Linked};
 ghost use Rattle.groups.specs.Items.{nextPlace};
-ghost use Rattle.groups.specs.Passes.{Makes, Conjoins, Unfilters, Filters, Splits, BoundOf, Puts4};
+ghost use Rattle.groups.specs.Passes.{Makes, Conjoins, Unfilters, Filters, Splits, boundIn};
 use blocks::append;
 use blocks::exchange;
 use blocks::put;
@@ -87,7 +89,7 @@ fn projections(t: &[u32], at: usize, out: &mut [u8], from: usize, len: usize, en
 
 // A bound from its word, plus 1000.
 fn thousandths(w: u32) -> u32
-    ensures { λ r. ⌜ (r ≤ 2000) × BoundOf w r ⌝ }
+    ensures { λ r. ⌜ (r ≤ 2000) × (r ≡ boundIn w) ⌝ }
 {
     if w < FIRST_NEGATIVE {
         1000 + w % 1048576 % 1001
@@ -99,7 +101,7 @@ fn thousandths(w: u32) -> u32
 // The bytes of ensure trust in front of a block.
 fn put4(out: &mut [u8], at: usize, end: usize, x: u32) -> usize
     requires { ⌜ x < 16777216 ⌝ }
-    ensures { λ r. ⌜ Puts4 (now (out .entry)) (now (out .exit)) at end x r ⌝ }
+    ensures { λ r. ⌜ buffer (now (out .exit)) r ≡ prepended (buffer (now (out .entry)) end) at (96 ∷ threeBytes x) ⌝ }
 {
     let a = put(out, at, end, (x % 256) as u8);
     let b = put(out, at, a, (x / 256 % 256) as u8);

@@ -8,8 +8,7 @@ use Prim.Native.Nat.{ℕ, _+_, _≤_, _<_}
 use native.Mathlib.Omega.{arith}
 use lib.ListN.{length, drop, getD}
 use Rattle.grammar.specs.Tokens.{isWordNumberOrVariable}
-use Rattle.grammar.specs.Automaton.{Symbol, vars, terms, isBound}
-use Rattle.grammar.specs.Automaton.{Kind, kVar, kNum, kNeg, tokenOf, gap, first, after, run}
+use Rattle.grammar.specs.Automaton.{Symbol, vars, terms, isBound, Kind, kVar, kNum, kNeg, tokenOf, gap, first, after, run}
 use Rattle.grammar.proofs.Basics.{cond-cases}
 use Rattle.words.specs.Words.{tokenWord}
 use Rattle.scanner.specs.Scans.{numeralFrom}
@@ -22,8 +21,7 @@ use Rattle.lexer.specs.Rules.{followOf, follows}
 use Rattle.lexer.specs.NextToken.{numberToken, numberAt, whenAllowed, variableAt, negativeAt, positiveAt}
 use Rattle.lexer.proofs.Advances.{Advanced}
 use Rattle.lexer.proofs.SymbolLaws.{vars-few, terms-few}
-use Rattle.lexer.proofs.FirstByte.{var-none, var-some, minus-stop, minus-bound}
-use Rattle.lexer.proofs.FirstByte.{digit-tight, digit-bound, digit-none, digit-term}
+use Rattle.lexer.proofs.FirstByte.{var-none, var-some, minus-stop, minus-bound, digit-tight, digit-bound, digit-none, digit-term}
 
 -- ---- a number as a token
 

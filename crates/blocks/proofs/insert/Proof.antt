@@ -1,6 +1,5 @@
 -- The loop's invariant: what stands from i to the end has moved on by one. Assumes nothing.
 use borrow.Author.Needs.{needs}
-use Prim.Native.Nat.{_-_}
 use Rattle.blocks.proofs.Moving.{Moved, moved-none, moved-one, insert-room, insert-full}
 use Rattle.blocks.proofs.insert.Statement.{statement}
 use Rattle.blocks.proofs.insert.Tie as tie

@@ -1,6 +1,7 @@
 -- Four bytes, the last one first. Assumes nothing.
-use Rattle.blocks.proofs.Holding.{puts}
-use Rattle.groups.proofs.BoundLaws.{puts-four}
+use mathlib.Core.Path.{ap, _∙_}
+use Prim.Native.Nat.{_/_, _%_}
+use Rattle.blocks.specs.Buffers.{Buffer, inserted, prepended}
 use borrow.Author.Needs.{needs}
 use Rattle.groups.proofs.put4.Statement.{statement}
 use Rattle.groups.proofs.put4.Tie as tie
@@ -30,13 +31,18 @@ same-length : tie.Need-same-length
 same-length c = search needs
 
 returns : tie.Need-returns
+unfolding prepended
 returns c =
-    let one = c .before .before .before .before .before .before .before .before .before .before .before .before .before .before .put in
-    let two = c .before .before .before .before .before .before .before .before .before .before .put2 in
-    let three = c .before .before .before .before .before .before .put3 in
-    let four = c .before .before .put4 in
-    puts-four _ _ _ _ _ _ _ _ _ _ _ _ (one .kept .0) (two .kept .0) (three .kept .0)
-    (puts _ (one .ensures)) (puts _ (two .ensures)) (puts _ (three .ensures)) (puts _ (four .ensures))
+    let one = c .before .before .before .before .before .before .before .before .before .before .before .before .before .before in
+    let two = c .before .before .before .before .before .before .before .before .before .before in
+    let three = c .before .before .before .before .before .before in
+    let at = one .before .before .before .args .at in
+    let x = one .before .before .before .args .x in
+    c .before .before .put4 .ensures
+    ∙ ap (λ (b : Buffer). inserted b at 96)
+    (three .put3 .ensures
+    ∙ ap (λ (b : Buffer). inserted b at (x / 65536))
+    (two .put2 .ensures ∙ ap (λ (b : Buffer). inserted b at (x / 256 % 256)) (one .put .ensures)))
 
 pub put4-spec : {M : Type 1} → statement M
 put4-spec =

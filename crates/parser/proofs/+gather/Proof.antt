@@ -1,12 +1,11 @@
 -- The measure is the words left. The loop's invariant is `Gathering`, which each turn hands on by its callee's promise. Assumes nothing.
-use Prim.Native.Nat.{_-_}
 use native.Mathlib.Omega.{arith}
 use borrow.Author.Needs.{needs}
 use lib.ListN.{length}
 use Rattle.blocks.proofs.Holding.{appends}
 use Rattle.clauses.specs.declared.Block.{Block}
 use Rattle.parser.proofs.GatherLaws.{Gathering, gathering-first, gathering-inside, gathering-end, gathering-closes, gathering-passes}
-use Prim.Native.Nat.{ℕ, _<_}
+use Prim.Native.Nat.{ℕ, _-_, _<_}
 use borrow.Fn.Kinds.{In}
 use borrow.Fn.PlainCycle.{Measures, is, falls, and}
 use Rattle.parser.proofs.gather.Reads as gather

@@ -1,6 +1,5 @@
 -- A variable or a term. Assumes nothing.
 use mathlib.Core.Path.{ap, _∙_}
-use Rattle.tsparql.specs.Writing.{threeBytes}
 use Rattle.blocks.specs.Buffers.{buffer, appended}
 use Rattle.parser.specs.Sets.{slotBytes}
 use Rattle.parser.proofs.SetLaws.{bytes-variable, bytes-term}
