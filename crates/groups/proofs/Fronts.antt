@@ -7,7 +7,7 @@ use Prim.Native.Nat.{ℕ, _+_, _<_}
 use native.Mathlib.Omega.{arith}
 use native.Mathlib.Nat.{add-zero}
 use lib.Dec.{eqb, leb}
-use lib.ListN.{length, drop, getD, length-drop}
+use lib.ListN.{length, drop, getD}
 use lib.Seq.{getD-drop}
 use borrow.Author.Tests.{le-leb}
 use Rattle.tsparql.specs.Strikes.{ascii}
@@ -19,6 +19,7 @@ use Rattle.grammar.specs.Grammar.{Unions, none, andUnion, unionsTokens}
 use Rattle.grammar.specs.Sparql.{optionalDot}
 use Rattle.grammar.specs.Meaning.{Item, aTriple, aGroup, aFilter, aProjection, aBound, items, itemOf, united, groupNode, optionalItem}
 use Rattle.grammar.specs.Meaning.{patternOf, valueOf, disjunctionOf}
+use Rattle.words.proofs.WordLaws.{word-inside}
 use Rattle.words.specs.Words.{words, slotWord, thousandthsWord}
 use Rattle.words.specs.Links.{behindOf}
 use Rattle.words.proofs.Balance.{slot-large, behind-condition, behind-body}
@@ -165,19 +166,16 @@ view-at t i w is rest e h =
 pub view-inside : (t : List ℕ) (i : ℕ) (is : List Item) (rest : List Token) → Walks (drop i t) is rest → i < length t
 view-inside t i is rest w = go (view (drop i t) rest is w .view)
   where
-    one : (x : ℕ) (xs : List ℕ) → drop i t ≡ x ∷ xs → i < length t
-    one x xs e = omega (arith, length-drop i t, ap length e)
-
     go : {κ : Kind} → View (drop i t) is rest κ → i < length t
-    go (atEnd e q) = one _ _ e
-    go (atDot ts e f) = one _ _ e
-    go (atUnion g us ts e f) = one _ _ e
-    go (atTriple x y z ts later e q f) = one _ _ e
-    go (atGroup g us ts later e q f) = one _ _ e
-    go (atOptional g ts later e q f) = one _ _ e
-    go (atFilter d ts later e q f) = one _ _ e
-    go (atProjection v ts later e q f) = one _ _ e
-    go (atBound l u ts later e q f) = one _ _ e
+    go (atEnd e q) = word-inside t _ i _ e
+    go (atDot ts e f) = word-inside t _ i _ e
+    go (atUnion g us ts e f) = word-inside t _ i _ e
+    go (atTriple x y z ts later e q f) = word-inside t _ i _ e
+    go (atGroup g us ts later e q f) = word-inside t _ i _ e
+    go (atOptional g ts later e q f) = word-inside t _ i _ e
+    go (atFilter d ts later e q f) = word-inside t _ i _ e
+    go (atProjection v ts later e q f) = word-inside t _ i _ e
+    go (atBound l u ts later e q f) = word-inside t _ i _ e
 
 -- ---- a body does not begin with UNION
 

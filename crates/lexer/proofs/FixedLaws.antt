@@ -9,8 +9,9 @@ use native.Mathlib.Omega.{arith}
 use native.Mathlib.Numerals.{add-one}
 use lib.Dec.{eqb}
 use lib.ListN.{length, take, drop, getD, length-drop}
-use lib.Seq.{drop-cons, take-all}
+use lib.Seq.{drop-cons}
 use borrow.Author.Tests.{eq-eqb, ne-eqb}
+use Rattle.tsparql.proofs.ListLaws.{part-drop}
 use Rattle.grammar.specs.Tokens.{mark, isCapital}
 use Rattle.grammar.specs.Automaton.{Symbol, Entry, marks, find, digit, gap, fault, run}
 use Rattle.grammar.proofs.Basics.{cond-cases}
@@ -54,9 +55,6 @@ Spelling s at production (S.Token l) = Spelled s at production l
 Spelling s at production (S.Fault place) = Misspelled s at place
 
 -- the part of a text from a place on
-part-drop : (s : List ℕ) (at : ℕ) → take (length s - at) (drop at s) ≡ drop at s
-part-drop s at = take-all (length s - at) (drop at s) (omega (arith, length-drop at s))
-
 pub part-first : (s : List ℕ) (at : ℕ) → at < length s
     → (0 < length (take (length s - at) (drop at s))) × (getD (take (length s - at) (drop at s)) 0 0 ≡ getD s at 0)
 part-first s at h = let e = part-drop s at ∙ drop-cons s at 0 h in (omega (arith, ap length e), ap (λ (l : List ℕ). getD l 0 0) e)

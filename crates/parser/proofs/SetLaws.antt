@@ -1,6 +1,6 @@
 -- Nodes in a buffer: how long they are, and that each function leaves what it promises. Assumes nothing.
 use mathlib.Core.Path.{_≡_, refl, sym, ap, _∙_, subst}
-use mathlib.Core.Bool.{Bool, true, false, cond}
+use mathlib.Core.Bool.{Bool, true, false, cond, true≢false}
 use mathlib.Core.List.{List, [], _∷_, _++_, append-assoc, append-nil}
 use mathlib.Core.Option.{none, some}
 use Prim.Native.Nat.{ℕ, _+_, _*_, _-_, _%_, _≤_, _<_}
@@ -35,23 +35,23 @@ node-large (Q.filter c x) = omega arith
 node-large (projectTrust v x) = omega arith
 node-large (ensureTrust l u x) = omega arith
 
-clash : {A : Type 0} → false ≡ true → A
-clash e = absurd (let z : _≡_ {A = ℕ} 0 1 = ap (λ (b : Bool). cond b 1 0) e in omega arith)
+is-empty : (x : Node) → isEmptySet x ≡ true → x ≡ patternSet []
+is-empty (patternSet []) e = refl
+is-empty (patternSet (p ∷ ps)) e = absurd (true≢false (sym e))
+is-empty (join x y) e = absurd (true≢false (sym e))
+is-empty (leftJoin c x y) e = absurd (true≢false (sym e))
+is-empty (union x y) e = absurd (true≢false (sym e))
+is-empty (Q.filter c x) e = absurd (true≢false (sym e))
+is-empty (projectTrust v x) e = absurd (true≢false (sym e))
+is-empty (ensureTrust l u x) e = absurd (true≢false (sym e))
 
-pub empty-bytes : (x : Node) → isEmptySet x ≡ true → nodeBytes x ≡ 0 ∷ []
+empty-bytes : (x : Node) → isEmptySet x ≡ true → nodeBytes x ≡ 0 ∷ []
 unfolding nodeBytes
-empty-bytes (patternSet []) e = refl
-empty-bytes (patternSet (p ∷ ps)) e = clash e
-empty-bytes (join x y) e = clash e
-empty-bytes (leftJoin c x y) e = clash e
-empty-bytes (union x y) e = clash e
-empty-bytes (Q.filter c x) e = clash e
-empty-bytes (projectTrust v x) e = clash e
-empty-bytes (ensureTrust l u x) e = clash e
+empty-bytes x e = ap nodeBytes (is-empty x e)
 
 pub full-large : (x : Node) → isEmptySet x ≡ false → 2 ≤ length (nodeBytes x)
 unfolding nodeBytes patternBytes
-full-large (patternSet []) e = clash (sym e)
+full-large (patternSet []) e = absurd (true≢false e)
 full-large (patternSet (p ∷ ps)) e = omega arith
 full-large (join x y) e = omega (arith, length-append (nodeBytes x) (nodeBytes y), node-large x)
 full-large (leftJoin c x y) e =
@@ -63,16 +63,6 @@ full-large (projectTrust v x) e = omega (arith, node-large x)
 full-large (ensureTrust l u x) e = omega arith
 
 -- ---- sets
-
-is-empty : (x : Node) → isEmptySet x ≡ true → x ≡ patternSet []
-is-empty (patternSet []) e = refl
-is-empty (patternSet (p ∷ ps)) e = clash e
-is-empty (join x y) e = clash e
-is-empty (leftJoin c x y) e = clash e
-is-empty (union x y) e = clash e
-is-empty (Q.filter c x) e = clash e
-is-empty (projectTrust v x) e = clash e
-is-empty (ensureTrust l u x) e = clash e
 
 pub joined-empty : (x : Node) → joined x (patternSet []) ≡ x
 joined-empty x = go (isEmptySet x) refl

@@ -1,6 +1,6 @@
 -- A stage goes on over a triple, in a new set (`triple-new`) or in the last one (`triple-more`). Assumes nothing.
 use mathlib.Core.Path.{_≡_, refl, sym, ap, _∙_, subst}
-use mathlib.Core.Bool.{Bool, true, false, cond, _||_}
+use mathlib.Core.Bool.{Bool, true, false, true≢false, _||_}
 use mathlib.Core.List.{List, [], _∷_, _++_, append-assoc}
 use mathlib.Core.Logic.{_⊎_, inl, inr}
 use mathlib.Core.Option.{none}
@@ -38,10 +38,7 @@ pub set-goes-on : (run : ℕ) → (eqb run 0 || leb 15 run) ≡ false → (1 ≤
 set-goes-on run e = go (eqb run 0) refl run refl
   where
     go : (b : Bool) → eqb run 0 ≡ b → (n : ℕ) → n ≡ run → (1 ≤ run) × (run < 15)
-    go true p n q = let z : true ≡ false = rw p at e in absurd (clash z)
-      where
-        clash : true ≡ false → ⊥
-        clash z = let y : _≡_ {A = ℕ} 1 0 = ap (λ (b : Bool). cond b 1 0) z in omega arith
+    go true p n q = absurd (true≢false (rw p at e))
     go false p (zero) q = absurd (eqb-false run 0 p (sym q))
     go false p (suc n) q = let l = leb-false 15 run (rw p at e) in (omega arith, omega arith)
 

@@ -8,17 +8,13 @@ use native.Mathlib.Omega.{arith}
 use borrow.Author.Tests.{ne-eqb}
 use lib.Dec.{eqb}
 use lib.ListN.{length, take, drop, length-drop}
-use lib.Seq.{take-all}
 use Rattle.tsparql.specs.Reading.{Read, got, fault, andThen, require}
+pub use Rattle.tsparql.proofs.ListLaws.{part-drop}
 use Rattle.tsparql.proofs.WrittenRead.{Reads}
 use Rattle.query.specs.Parts.{mapRead, shift, follow}
 use Rattle.heads.specs.Answers.{faultIn}
 
--- the list of the part of a slice from a place on
-pub part-drop : (s : List ℕ) (at : ℕ) → take (length s - at) (drop at s) ≡ drop at s
-part-drop s at = take-all (length s - at) (drop at s) (omega (arith, length-drop at s))
-
--- what was read of such a part was read of what drop leaves
+-- what was read of the part of a slice from a place on was read of what drop leaves
 pub on-part : {A : Type 0} (f : List ℕ → A) (s : List ℕ) (at : ℕ) {r : A} → r ≡ f (take (length s - at) (drop at s)) → f (drop at s) ≡ r
 on-part f s at e = sym (e ∙ ap f (part-drop s at))
 

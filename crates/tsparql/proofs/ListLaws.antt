@@ -1,17 +1,18 @@
 -- Laws of the functions on lists (specs/Lists.antt): tests; what holds of every element; allPass and anyPass; keepIf, consIf and onlyIf;
--- map and concatMap.
+-- map and concatMap; a part of a slice.
 -- Laws of length, take, drop, set and the like are the library's (lib.ListN, lib.Seq).
 -- Assumes nothing.
 use mathlib.Core.Path.{_≡_, refl, sym, ap, _∙_}
 use mathlib.Core.Bool.{Bool, true, false, _&&_, _||_, not, and-comm, and-assoc, and-false, or-assoc, or-true}
 use mathlib.Core.List.{List, [], _∷_, _++_, map, append-assoc}
 pub use mathlib.Core.List.{map-append}
-use Prim.Native.Nat.{ℕ, zero, suc, _+_, _≤_, _<_, zero-le, suc-le-suc}
+use Prim.Native.Nat.{ℕ, zero, suc, _+_, _-_, _≤_, _<_, zero-le, suc-le-suc}
 use native.Mathlib.Nat.{le-refl, le-step, le-trans, add-le-add}
 use native.Mathlib.Omega.{arith}
 use borrow.Author.Tests.{eqb-true, eqb-false, eq-eqb}
 use lib.Dec.{eqb}
-use lib.ListN.{length, getD, length-append}
+use lib.ListN.{length, take, drop, getD, length-append, length-drop}
+use lib.Seq.{take-all}
 use Rattle.tsparql.specs.Lists.{Every, consIf, onlyIf, keepIf, allPass, anyPass, concatMap, upFrom}
 
 -- ---- tests
@@ -331,3 +332,9 @@ module _ {A B C : Type 0} where
   pub map-concatMap : (g : B → C) (f : A → List B) (xs : List A) → map g (concatMap f xs) ≡ concatMap (λ x. map g (f x)) xs
   map-concatMap g f [] = refl
   map-concatMap g f (x ∷ xs) = map-append g (f x) (concatMap f xs) ∙ ap (λ (r : List C). map g (f x) ++ r) (map-concatMap g f xs)
+
+-- ---- parts of a slice
+
+-- the list of the part from a place on
+pub part-drop : (s : List ℕ) (at : ℕ) → take (length s - at) (drop at s) ≡ drop at s
+part-drop s at = take-all (length s - at) (drop at s) (omega (arith, length-drop at s))
