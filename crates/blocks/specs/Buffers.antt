@@ -11,8 +11,8 @@ abbrev pub buffer : List ℕ → ℕ → Buffer
 buffer l e = record { bytes = l; end = e }
 
 -- a place up to the end, and a byte behind it
-abbrev pub hasRoom : ℕ → ℕ → ℕ → Bool
-hasRoom i e size = leb i e && ltb e size
+abbrev pub has_room : ℕ → ℕ → ℕ → Bool
+has_room i e size = leb i e && ltb e size
 
 -- v at i, and what stands from i to e one place on, over the byte at e
 abbrev pub shifted : List ℕ → ℕ → ℕ → ℕ → List ℕ
@@ -20,7 +20,7 @@ shifted l i e v = take i l ++ v ∷ (take (e - i) (drop i l) ++ drop (e + 1) l)
 
 -- v comes in at i; nothing changes where there is no room
 unfoldable pub inserted : Buffer → ℕ → ℕ → Buffer
-inserted b i v = cond (hasRoom i b.end (length b.bytes)) (buffer (shifted b.bytes i b.end v) (b.end + 1)) b
+inserted b i v = cond (has_room i b.end (length b.bytes)) (buffer (shifted b.bytes i b.end v) (b.end + 1)) b
 
 -- bytes come in at i, the last one first
 unfoldable pub prepended : Buffer → ℕ → List ℕ → Buffer

@@ -1,7 +1,7 @@
 // Blocks of bytes, one behind the other from the front of a lent buffer up to an end: a byte comes in front of a block or behind the
 // last one, and two neighbours change places. The functions that add a byte answer the new end; where there is no room nothing changes.
 ghost use Rattle.std.specs.Prelude.{[], ◌∷◌, ◌≡◌, ◌≤◌, ◌%◌};
-ghost use Rattle.tsparql.specs.Writing.{threeBytes};
+ghost use Rattle.tsparql.specs.Writing.{three_bytes};
 ghost use Rattle.blocks.specs.Buffers.{buffer, inserted, appended, exchanged};
 
 use bytes::reverse;
@@ -42,7 +42,7 @@ pub fn append(out: &mut [u8], end: usize, v: u8) -> usize
 
 // Three bytes behind it, which hold the low 21 bits of a number.
 pub fn append3(out: &mut [u8], end: usize, x: u32) -> usize
-    ensures { buffer out.new result ≡ appended (buffer out.old end) (threeBytes (x % 2097152)) }
+    ensures { buffer out.new result ≡ appended (buffer out.old end) (three_bytes (x % 2097152)) }
 {
     let n = append(out, end, (x / 65536 % 32) as u8);
     let m = append(out, n, (x / 256 % 256) as u8);

@@ -1,7 +1,7 @@
 // Bounds on trust as a push carries them down: those of a node's operands, and what becomes of what stands before its operands.
 ghost use Rattle.std.specs.Prelude.{◌≡◌, ◌≤◌, max, min};
 ghost use Rattle.tsparql.specs.Push as Push;
-ghost use Rattle.bounds.specs.Bounds.{boundIn, isBound, isBelow, firstBound, secondBound, wrapped, stays, ownSize};
+ghost use Rattle.bounds.specs.Bounds.{bound_in, is_bound, is_below, first_bound, second_bound, wrapped, stays, own_size};
 
 use heads::Head;
 
@@ -26,7 +26,7 @@ fn greater(a: u32, b: u32) -> u32
 
 // The bound of the operand of ensure trust from m to w.
 fn meet(b: Bound, m: u32, w: u32) -> Bound
-    ensures { boundIn result ≡ Push.meet (boundIn b) m w }
+    ensures { bound_in result ≡ Push.meet (bound_in b) m w }
 {
     match b {
         Bound::Nothing => Bound::Between(m, w),
@@ -36,7 +36,7 @@ fn meet(b: Bound, m: u32, w: u32) -> Bound
 
 // The bound of the operands of a join: as low, and up to 1000.
 fn floor_of(b: Bound) -> Bound
-    ensures { boundIn result ≡ Push.trustFloor (boundIn b) }
+    ensures { bound_in result ≡ Push.trust_floor (bound_in b) }
 {
     match b {
         Bound::Nothing => Bound::Nothing,
@@ -46,7 +46,7 @@ fn floor_of(b: Bound) -> Bound
 
 // A bound is there, and it is below 1000 at the top.
 fn is_below(b: Bound) -> bool
-    ensures { result ≡ isBelow (boundIn b) }
+    ensures { result ≡ is_below (bound_in b) }
 {
     match b {
         Bound::Nothing => false,
@@ -55,7 +55,7 @@ fn is_below(b: Bound) -> bool
 }
 
 fn is_bound(b: Bound) -> bool
-    ensures { result ≡ isBound (boundIn b) }
+    ensures { result ≡ is_bound (bound_in b) }
 {
     match b {
         Bound::Nothing => false,
@@ -65,7 +65,7 @@ fn is_bound(b: Bound) -> bool
 
 // The node is wrapped in ensure trust.
 pub fn wraps(h: Head, b: Bound) -> bool
-    ensures { result ≡ wrapped h (boundIn b) }
+    ensures { result ≡ wrapped h (bound_in b) }
 {
     match h {
         Head::PatternSet(_) => is_bound(b),
@@ -80,7 +80,7 @@ pub fn wraps(h: Head, b: Bound) -> bool
 
 // The bound of a node's first operand, where it has one.
 pub fn first_bound(h: Head, b: Bound) -> Bound
-    ensures { boundIn result ≡ firstBound h (boundIn b) }
+    ensures { bound_in result ≡ first_bound h (bound_in b) }
 {
     match h {
         Head::PatternSet(_) => b,
@@ -95,7 +95,7 @@ pub fn first_bound(h: Head, b: Bound) -> Bound
 
 // The bound of its second, where it has one.
 pub fn second_bound(h: Head, b: Bound) -> Bound
-    ensures { boundIn result ≡ secondBound h (boundIn b) }
+    ensures { bound_in result ≡ second_bound h (bound_in b) }
 {
     match h {
         Head::PatternSet(_) => b,
@@ -126,7 +126,7 @@ pub fn stays_put(h: Head) -> bool
 // How many bytes stand before a node's operands after the push, where k stood there.
 pub fn own_size(h: Head, b: Bound, k: usize) -> usize
     requires { k ≤ 1024 }
-    ensures { result ≡ ownSize h (boundIn b) k }
+    ensures { result ≡ own_size h (bound_in b) k }
 {
     if stays_put(h) {
         if wraps(h, b) { 4 + k } else { k }

@@ -1,4 +1,4 @@
--- From the code's enums to the definitions' data (`trustIn`, `cellIn`), and from words back to the data (`wordTrust`, `wordCell`), for
+-- From the code's enums to the definitions' data (`trust_in`, `cell_in`), and from words back to the data (`word_trust`, `word_cell`), for
 -- every word. The words themselves are defined in tsparql's Evaluate; laws on both ways are in proofs/WordLaws. Assumes nothing.
 use Rattle.std.specs.Prelude.{cond, ℕ, ◌+◌, ◌-◌, ◌≤◌, ◌<◌, min, leb, ltb, eqb, ℤ, pos, negsuc}
 use Rattle.tsparql.specs.Values as Values
@@ -15,15 +15,15 @@ shift (pos n) = min n 1000 + 1000
 shift (negsuc n) = 999 - n
 
 -- the trust that a value of the code stands for
-abbrev pub trustIn : Trust → Values.Trust
-trustIn (Known z) = Values.known (shift z)
-trustIn Unknown = Values.unknown
+abbrev pub trust_in : Trust → Values.Trust
+trust_in (Known z) = Values.known (shift z)
+trust_in Unknown = Values.unknown
 
 -- the cell that a value of the code stands for
-abbrev pub cellIn : Cell → Values.Cell
-cellIn Free = Values.free
-cellIn (Term n) = Values.term n
-cellIn (Trusted t) = Values.trusted (trustIn t)
+abbrev pub cell_in : Cell → Values.Cell
+cell_in Free = Values.free
+cell_in (Term n) = Values.term n
+cell_in (Trusted t) = Values.trusted (trust_in t)
 
 -- a number in the range of trusts, from -1000 to 1000; there `shift` keeps numbers apart
 abbrev pub NumberInRange : ℤ → Type 0
@@ -44,12 +44,12 @@ CellInRange (Trusted t) = InRange t
 -- ---- words
 
 -- the trust of a word: unknown above 2000
-abbrev pub wordTrust : ℕ → Values.Trust
-wordTrust w = cond (leb w 2000) (Values.known w) Values.unknown
+abbrev pub word_trust : ℕ → Values.Trust
+word_trust w = cond (leb w 2000) (Values.known w) Values.unknown
 
 -- the cell of a word: 0 free, below 1,048,576 a term, else a trust
-abbrev pub wordCell : ℕ → Values.Cell
-wordCell w = cond (eqb w 0) Values.free (cond (ltb w 1048576) (Values.term w) (Values.trusted (wordTrust (w - 1048576))))
+abbrev pub word_cell : ℕ → Values.Cell
+word_cell w = cond (eqb w 0) Values.free (cond (ltb w 1048576) (Values.term w) (Values.trusted (word_trust (w - 1048576))))
 
 -- a cell that has a word of its own: a term from 1 to 1,048,575, or a trust of at most 1000
 abbrev pub Formed : Values.Cell → Type 0

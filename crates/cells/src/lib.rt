@@ -1,9 +1,9 @@
 // Trusts and cells as values, and as the words of the row space. Each promise is an equation with the definitions of `tsparql`,
-// by `trustIn` and `cellIn` of specs/Words.antt. A signed number is used here only: other crates see trusts, cells and words.
+// by `trust_in` and `cell_in` of specs/Words.antt. A signed number is used here only: other crates see trusts, cells and words.
 ghost use Rattle.std.specs.Prelude.{◌≡◌, ◌≤◌};
-ghost use Rattle.tsparql.specs.Values.{sameTrust, isFree, sameCell};
-ghost use Rattle.tsparql.specs.Evaluate.{trustWord};
-ghost use Rattle.cells.specs.Words.{shift, trustIn, cellIn, wordTrust, wordCell, NumberInRange, InRange, CellInRange};
+ghost use Rattle.tsparql.specs.Values.{same_trust, is_free, same_cell};
+ghost use Rattle.tsparql.specs.Evaluate.{trust_word};
+ghost use Rattle.cells.specs.Words.{shift, trust_in, cell_in, word_trust, word_cell, NumberInRange, InRange, CellInRange};
 
 // A trust in thousandths, from -1000 to 1000, or unknown.
 #[derive(Drop)]
@@ -47,7 +47,7 @@ fn unshifted(w: u32) -> i16
 
 // The word of a trust: the trust plus 1000, or 2001 for unknown.
 pub fn trust_word(t: Trust) -> u32
-    ensures { result ≡ trustWord (trustIn t) }
+    ensures { result ≡ trust_word (trust_in t) }
 {
     match t {
         Trust::Known(z) => shifted(z),
@@ -57,7 +57,7 @@ pub fn trust_word(t: Trust) -> u32
 
 // The trust of a word: unknown above 2000.
 fn word_trust(w: u32) -> Trust
-    ensures trust { trustIn result ≡ wordTrust w }
+    ensures trust { trust_in result ≡ word_trust w }
     ensures in_range { InRange result }
 {
     if w <= 2000 {
@@ -69,7 +69,7 @@ fn word_trust(w: u32) -> Trust
 
 // The cell of a word: 0 is free, a word below 1,048,576 a term, any other a trust.
 pub fn word_cell(w: u32) -> Cell
-    ensures cell { cellIn result ≡ wordCell w }
+    ensures cell { cell_in result ≡ word_cell w }
     ensures in_range { CellInRange result }
 {
     if w == 0 {
@@ -83,7 +83,7 @@ pub fn word_cell(w: u32) -> Cell
 
 // Whether two trusts are the same: two unknown ones are.
 fn same_trust(a: Trust, b: Trust) -> bool
-    ensures { result ≡ sameTrust (trustIn a) (trustIn b) }
+    ensures { result ≡ same_trust (trust_in a) (trust_in b) }
 {
     match a {
         Trust::Known(x) => match b {
@@ -99,7 +99,7 @@ fn same_trust(a: Trust, b: Trust) -> bool
 
 // Whether a cell is free.
 fn is_free(c: Cell) -> bool
-    ensures { result ≡ isFree (cellIn c) }
+    ensures { result ≡ is_free (cell_in c) }
 {
     match c {
         Cell::Free => true,
@@ -110,7 +110,7 @@ fn is_free(c: Cell) -> bool
 
 // Whether two cells are the same.
 pub fn same_cell(a: Cell, b: Cell) -> bool
-    ensures { result ≡ sameCell (cellIn a) (cellIn b) }
+    ensures { result ≡ same_cell (cell_in a) (cell_in b) }
 {
     match a {
         Cell::Free => is_free(b),

@@ -10,14 +10,14 @@ use lib.Dec.{eqb}
 use lib.ListN.{length, drop, get_or}
 use borrow.Author.Tests.{eq-eqb, ne_eqb, lt-ltb, le-ltb}
 use Rattle.tsparql.specs.Strikes.{ascii}
-use Rattle.tsparql.specs.Writing.{conditionBytes, threeBytes}
+use Rattle.tsparql.specs.Writing.{condition_bytes, three_bytes}
 use Rattle.grammar.specs.Tokens.{Token}
-use Rattle.grammar.specs.Grammar.{Variable, Primary, negatable, equal, less, primaryTokens, term, variable, bound, not, parens}
-use Rattle.grammar.specs.Meaning.{primaryOf}
+use Rattle.grammar.specs.Grammar.{Variable, Primary, negatable, equal, less, primary_tokens, term, variable, bound, not, parens}
+use Rattle.grammar.specs.Meaning.{primary_of}
 use Rattle.blocks.specs.Buffers.{buffer, appended}
 use Rattle.blocks.specs.Blocks.{Holds}
 use Rattle.words.specs.Words.{words}
-use Rattle.clauses.specs.Clauses.{operandBytes, operandWords, Operand}
+use Rattle.clauses.specs.Clauses.{operand_bytes, operand_words, Operand}
 use Rattle.clauses.specs.declared.Block.{Block}
 use Rattle.grammar.proofs.Basics.{cond_cases}
 use Rattle.blocks.proofs.Holding.{appends}
@@ -32,16 +32,16 @@ variable-name v = let small = v.small in omega arith
 
 -- the words w, op and x tell both of a primary
 record Told (p : Primary) (rest : List Token) (w op x : ℕ) : Type 0 where
-  bytes : operandBytes w op x ≡ conditionBytes (primaryOf p)
-  behind : drop (operandWords w) (words (primaryTokens p rest)) ≡ words rest
+  bytes : operand_bytes w op x ≡ condition_bytes (primary_of p)
+  behind : drop (operand_words w) (words (primary_tokens p rest)) ≡ words rest
 
 module _ (rest : List Token) where
   -- the word j of a primary
   abbrev word_of : Primary → ℕ → ℕ
-  word_of p j = get_or (words (primaryTokens p rest)) j 0
+  word_of p j = get_or (words (primary_tokens p rest)) j 0
 
   told : (p : Primary) → (word_of p 0 ≡ 33 → ⊥) → (word_of p 0 ≡ 40 → ⊥) → Told p rest (word_of p 0) (word_of p 1) (word_of p 2)
-  unfolding conditionBytes primaryOf ascii
+  unfolding condition_bytes primary_of ascii
   told (negatable (bound v)) f g =
       let name : (256 + v.name) % 16 ≡ 0 + v.name = omega (arith, variable-name v) in
       record { bytes = ap (λ (b : ℕ). b ∷ []) name; behind = refl }
@@ -75,22 +75,22 @@ module _ (t out out' : List ℕ) (i n r w op x : ℕ) (first : w ≡ get_or t i 
   abbrev Answer : ℕ → Type 0
   Answer size = Operand t i n out out' (record { next = i + size; len = r })
 
-  answer : (size : ℕ) (bs : List ℕ) → size ≡ operandWords w → bs ≡ operandBytes w op x → Adds bs → Answer size
+  answer : (size : ℕ) (bs : List ℕ) → size ≡ operand_words w → bs ≡ operand_bytes w op x → Adds bs → Answer size
   answer size bs e q a = record { behind = rw (sym first, e); bytes = rw (sym first, sym second, sym third, sym q) a }
 
   pub operand-bound : w ≡ 66 → Adds (x % 16 ∷ []) → Answer 4
   operand-bound b = let e = eq-eqb w 66 b in answer 4 _ (rw e) (rw e)
 
-  module _ (noBound : w ≡ 66 → ⊥) where
+  module _ (no_bound : w ≡ 66 → ⊥) where
     pub operand-less : op ≡ 60 → Adds ((48 + w % 16) ∷ x % 16 ∷ []) → Answer 3
-    operand-less l = let e = ne_eqb w 66 noBound in answer 3 _ (rw e) (rw (e, eq-eqb op 60 l))
+    operand-less l = let e = ne_eqb w 66 no_bound in answer 3 _ (rw e) (rw (e, eq-eqb op 60 l))
 
-    module _ (noLess : op ≡ 60 → ⊥) where
+    module _ (no_less : op ≡ 60 → ⊥) where
       pub operand_same : x < 2097152 → Adds ((16 + w % 16) ∷ x % 16 ∷ []) → Answer 3
-      operand_same v = let e = ne_eqb w 66 noBound in answer 3 _ (rw e) (rw (e, ne_eqb op 60 noLess, lt-ltb x 2097152 v))
+      operand_same v = let e = ne_eqb w 66 no_bound in answer 3 _ (rw e) (rw (e, ne_eqb op 60 no_less, lt-ltb x 2097152 v))
 
-      pub operand-term : 2097152 ≤ x → Adds ((32 + w % 16) ∷ threeBytes (x % 2097152)) → Answer 3
-      operand-term v = let e = ne_eqb w 66 noBound in answer 3 _ (rw e) (rw (e, ne_eqb op 60 noLess, le-ltb x 2097152 v))
+      pub operand-term : 2097152 ≤ x → Adds ((32 + w % 16) ∷ three_bytes (x % 2097152)) → Answer 3
+      operand-term v = let e = ne_eqb w 66 no_bound in answer 3 _ (rw e) (rw (e, ne_eqb op 60 no_less, le-ltb x 2097152 v))
 
 -- ---- what that is of a primary
 
@@ -101,16 +101,16 @@ module _ {t : List ℕ} {i n : ℕ} {out out' : List ℕ} {b : Block} (o : Opera
 
   -- it was written behind n bytes, and b is where it ends; if it fits
   pub operand-writes :
-      (p : Primary) (rest : List Token) (pre : List ℕ) → drop i t ≡ words (primaryTokens p rest) → (get_or t i 0 ≡ 33 → ⊥)
-      → (get_or t i 0 ≡ 40 → ⊥) → Holds out pre n → n + length (conditionBytes (primaryOf p)) ≤ length out
-      → (drop b.next t ≡ words rest) × Holds out' (pre ++ conditionBytes (primaryOf p)) b.len
+      (p : Primary) (rest : List Token) (pre : List ℕ) → drop i t ≡ words (primary_tokens p rest) → (get_or t i 0 ≡ 33 → ⊥)
+      → (get_or t i 0 ≡ 40 → ⊥) → Holds out pre n → n + length (condition_bytes (primary_of p)) ≤ length out
+      → (drop b.next t ≡ words rest) × Holds out' (pre ++ condition_bytes (primary_of p)) b.len
   operand-writes p rest pre here f g h room =
       let w₀ : get_or t i 0 ≡ word_of rest p 0 = ap (λ (k : ℕ). get_or t k 0) (sym (add-zero i)) ∙ word_at t _ i 0 here in
       let w₁ : get_or t (i + 1) 0 ≡ word_of rest p 1 = word_at t _ i 1 here in
       let w₂ : get_or t (i + 2) 0 ≡ word_of rest p 2 = word_at t _ i 2 here in
       let q = told rest p (λ z. f (w₀ ∙ z)) (λ z. g (w₀ ∙ z)) in
-      let size = operandWords (get_or t i 0) in
-      let behind : drop size (words (primaryTokens p rest)) ≡ words rest = rw w₀ q.behind in
-      let bytes : buffer out' b.len ≡ appended (buffer out n) (conditionBytes (primaryOf p)) =
+      let size = operand_words (get_or t i 0) in
+      let behind : drop size (words (primary_tokens p rest)) ≡ words rest = rw w₀ q.behind in
+      let bytes : buffer out' b.len ≡ appended (buffer out n) (condition_bytes (primary_of p)) =
       o.bytes ∙ ap (appended (buffer out n)) (rw (w₀, w₁, w₂) q.bytes) in
       (ap (λ (k : ℕ). drop k t) o.behind ∙ words-on t _ i size here ∙ behind, appends _ bytes pre h room)

@@ -8,43 +8,43 @@ use native.Mathlib.Omega.{arith}
 use lib.ListN.{length, drop, get_or, length-append}
 use Rattle.tsparql.specs.Strikes.{ascii}
 use Rattle.tsparql.specs.Query.{Condition}
-use Rattle.tsparql.specs.Writing.{conditionBytes}
+use Rattle.tsparql.specs.Writing.{condition_bytes}
 use Rattle.grammar.specs.Tokens.{Token, mark, RPAREN}
 use Rattle.blocks.specs.Blocks.{Holds, Puts}
 use Rattle.words.specs.Words.{words}
-use Rattle.clauses.specs.Tails.{Tail, close, and_then, orThen, tailTokens, orWith, orBytes}
+use Rattle.clauses.specs.Tails.{Tail, close, and_then, or_then, tail_tokens, or_with, or_bytes}
 use Rattle.clauses.specs.Clauses.{State, Wrote, Connects}
 use Rattle.clauses.specs.declared.Block.{Block}
 use Rattle.clauses.specs.declared.Clause.{Clause}
 use Rattle.words.proofs.WordLaws.{word_first, words-on, word-inside}
-use Rattle.clauses.proofs.TailLaws.{or_bytes, operators, ends-least}
+use Rattle.clauses.proofs.TailLaws.{or_bytes_lem, operators, ends-least}
 
 -- the first word of a tail and a parenthesis
-abbrev tailWord : Tail → ℕ
-tailWord close = 41
-tailWord (and_then p r) = 38
-tailWord (orThen p r) = 124
+abbrev tail_word : Tail → ℕ
+tail_word close = 41
+tail_word (and_then p r) = 38
+tail_word (or_then p r) = 124
 
 tail-first :
-    (t : List ℕ) (i : ℕ) (r : Tail) (rest : List Token) → drop i t ≡ words (tailTokens r (mark RPAREN ∷ rest))
-    → (get_or t i 0 ≡ tailWord r) × (i < length t)
+    (t : List ℕ) (i : ℕ) (r : Tail) (rest : List Token) → drop i t ≡ words (tail_tokens r (mark RPAREN ∷ rest))
+    → (get_or t i 0 ≡ tail_word r) × (i < length t)
 unfolding ascii
 tail-first t i close rest e = (word_first t _ i _ e, word-inside t _ i _ e)
 tail-first t i (and_then p r) rest e = (word_first t _ i _ e, word-inside t _ i _ e)
-tail-first t i (orThen p r) rest e = (word_first t _ i _ e, word-inside t _ i _ e)
+tail-first t i (or_then p r) rest e = (word_first t _ i _ e, word-inside t _ i _ e)
 
 module _ {t : List ℕ} {rest : List Token} {final : Condition} {pre out : List ℕ} {and : ℕ} {b : Block}
     (w : Wrote t rest final pre out and b) where
   -- the word behind the primary
-  wrote-next : (r : Tail) → w.later ≡ r → get_or t b.next 0 ≡ tailWord r
+  wrote-next : (r : Tail) → w.later ≡ r → get_or t b.next 0 ≡ tail_word r
   wrote-next r z = (tail-first t b.next r rest (rw z at w.written)).0
 
   -- there is room for a byte for each operator to come
   wrote-room : b.len + operators w.later ≤ length out
   wrote-room =
-      let or = orBytes w.before in
-      let bytes = conditionBytes w.conjunct in
-      let means = ap (λ (c : Condition). length (conditionBytes c)) w.means in
+      let or = or_bytes w.before in
+      let bytes = condition_bytes w.conjunct in
+      let means = ap (λ (c : Condition). length (condition_bytes c)) w.means in
       let least = ends-least w.later w.before w.conjunct in
       omega (arith, w.holds.size, w.room, length-append pre (or ++ bytes), length-append or bytes)
 
@@ -60,11 +60,11 @@ module _ (t out out' : List ℕ) (from and n : ℕ) (b : Block) where
     where
       go : (r : Tail) → w.later ≡ r → State t rest final pre out' (record { next = b.next + 1; and = and; len = n })
       go close z = absurd (omega (arith, wrote-next w close z))
-      go (orThen p r) z = absurd (omega (arith, wrote-next w (orThen p r) z))
+      go (or_then p r) z = absurd (omega (arith, wrote-next w (or_then p r) z))
       go (and_then p r) z =
-          let or = orBytes w.before in
-          let held : Holds out ((pre ++ or) ++ conditionBytes w.conjunct) b.len = rw append_assoc w.holds in
-          let put = a (pre ++ or) (conditionBytes w.conjunct) (length-append pre or ∙ sym w.place) held
+          let or = or_bytes w.before in
+          let held : Holds out ((pre ++ or) ++ condition_bytes w.conjunct) b.len = rw append_assoc w.holds in
+          let put = a (pre ++ or) (condition_bytes w.conjunct) (length-append pre or ∙ sym w.place) held
           (omega (arith, wrote-room w, ap operators z)) in
           inl (record {
             before = w.before;
@@ -87,9 +87,9 @@ module _ (t out out' : List ℕ) (from and n : ℕ) (b : Block) where
       go : (r : Tail) → w.later ≡ r → State t rest final pre out' (record { next = b.next + 1; and = n; len = n })
       go close z = absurd (omega (arith, wrote-next w close z))
       go (and_then p r) z = absurd (omega (arith, wrote-next w (and_then p r) z))
-      go (orThen p r) z =
-          let d = orWith w.before w.conjunct in
-          let put = a pre (conditionBytes d) (sym f) (rw or_bytes at w.holds) (omega (arith, wrote-room w, ap operators z)) in
+      go (or_then p r) z =
+          let d = or_with w.before w.conjunct in
+          let put = a pre (condition_bytes d) (sym f) (rw or_bytes_lem at w.holds) (omega (arith, wrote-room w, ap operators z)) in
           inl (record {
             before = some d;
             prior = none;
@@ -98,8 +98,8 @@ module _ (t out out' : List ℕ) (from and n : ℕ) (b : Block) where
             later = r;
             written = words-on t _ b.next 1 (rw z at w.written);
             means = rw z at w.means;
-            holds = rw (append-nil (96 ∷ conditionBytes d)) put;
-            place = put.size ∙ length-append pre (96 ∷ conditionBytes d);
+            holds = rw (append-nil (96 ∷ condition_bytes d)) put;
+            place = put.size ∙ length-append pre (96 ∷ condition_bytes d);
             room = omega (arith, w.room);
           })
 
@@ -110,6 +110,6 @@ unfolding ascii
 connect-end t out from and b e g rest final pre f w = go w.later refl
   where
     go : (r : Tail) → w.later ≡ r → State t rest final pre out (record { next = b.next; and = and; len = b.len })
-    go close z = inr (record { written = rw z at w.written; holds = rw (or_bytes, rw z at w.means) at w.holds })
+    go close z = inr (record { written = rw z at w.written; holds = rw (or_bytes_lem, rw z at w.means) at w.holds })
     go (and_then p r) z = absurd (e (wrote-next w (and_then p r) z))
-    go (orThen p r) z = absurd (g (wrote-next w (orThen p r) z))
+    go (or_then p r) z = absurd (g (wrote-next w (or_then p r) z))

@@ -3,43 +3,43 @@
 use Rattle.std.specs.Prelude.{◌≡◌, cond, List, [], ◌∷◌, ◌++◌, ◌⊎◌, ℕ, ◌+◌, ◌%◌, ◌≤◌, eqb, ltb, length, drop, get_or}
 use Rattle.std.proofs.Math.Option.{Option}
 use Rattle.tsparql.specs.Query.{Condition}
-use Rattle.tsparql.specs.Writing.{conditionBytes, threeBytes}
+use Rattle.tsparql.specs.Writing.{condition_bytes, three_bytes}
 use Rattle.grammar.specs.Tokens.{Token, mark, RPAREN}
-use Rattle.grammar.specs.Grammar.{Disjunction, disjunctionTokens, Primary, primaryTokens}
-use Rattle.grammar.specs.Meaning.{disjunctionOf, primaryOf}
+use Rattle.grammar.specs.Grammar.{Disjunction, disjunction_tokens, Primary, primary_tokens}
+use Rattle.grammar.specs.Meaning.{disjunction_of, primary_of}
 use Rattle.blocks.specs.Buffers.{buffer, appended}
 use Rattle.blocks.specs.Blocks.{Holds}
 use Rattle.words.specs.Words.{words}
-use Rattle.clauses.specs.Tails.{Tail, tailTokens, andWith, orBytes, andBytes, negations, notBytes, endsAs}
+use Rattle.clauses.specs.Tails.{Tail, tail_tokens, and_with, or_bytes, and_bytes, negations, not_bytes, ends_as}
 use Rattle.clauses.specs.declared.Block.{Block}
 use Rattle.clauses.specs.declared.Clause.{Clause}
 
 -- ---- a primary that begins with neither '!' nor '('
 
 -- its bytes, by its words w, op and x: BOUND, '<', '=' before a variable, '=' before a term
-abbrev pub operandBytes : ℕ → ℕ → ℕ → List ℕ
-operandBytes w op x =
+abbrev pub operand_bytes : ℕ → ℕ → ℕ → List ℕ
+operand_bytes w op x =
     cond (eqb w 66) (x % 16 ∷ [])
     (cond (eqb op 60) ((48 + w % 16) ∷ x % 16 ∷ [])
-    (cond (ltb x 2097152) ((16 + w % 16) ∷ x % 16 ∷ []) ((32 + w % 16) ∷ threeBytes (x % 2097152))))
+    (cond (ltb x 2097152) ((16 + w % 16) ∷ x % 16 ∷ []) ((32 + w % 16) ∷ three_bytes (x % 2097152))))
 
 -- the number of its words
-abbrev pub operandWords : ℕ → ℕ
-operandWords w = cond (eqb w 66) 4 3
+abbrev pub operand_words : ℕ → ℕ
+operand_words w = cond (eqb w 66) 4 3
 
 -- the one whose words begin at i was written behind n bytes, and b is where it ends
 pub record Operand (t : List ℕ) (i n : ℕ) (out out' : List ℕ) (b : Block) : Type 0 where
-  pub behind : b.next ≡ i + operandWords (get_or t i 0)
-  pub bytes : buffer out' b.len ≡ appended (buffer out n) (operandBytes (get_or t i 0) (get_or t (i + 1) 0) (get_or t (i + 2) 0))
+  pub behind : b.next ≡ i + operand_words (get_or t i 0)
+  pub bytes : buffer out' b.len ≡ appended (buffer out n) (operand_bytes (get_or t i 0) (get_or t (i + 1) 0) (get_or t (i + 2) 0))
 
 -- ---- conditions
 
 -- a condition was written behind `from` bytes, up to and over its closing parenthesis, and b is where it ends; if it fits
 abbrev pub Conditions : List ℕ → ℕ → ℕ → List ℕ → List ℕ → Block → Type 0
 Conditions t at from out out' b =
-    (d : Disjunction) (rest : List Token) (pre : List ℕ) → drop at t ≡ words (disjunctionTokens d (mark RPAREN ∷ rest))
-    → Holds out pre from → from + length (conditionBytes (disjunctionOf d)) ≤ length out
-    → (drop b.next t ≡ words rest) × Holds out' (pre ++ conditionBytes (disjunctionOf d)) b.len
+    (d : Disjunction) (rest : List Token) (pre : List ℕ) → drop at t ≡ words (disjunction_tokens d (mark RPAREN ∷ rest))
+    → Holds out pre from → from + length (condition_bytes (disjunction_of d)) ≤ length out
+    → (drop b.next t ≡ words rest) × Holds out' (pre ++ condition_bytes (disjunction_of d)) b.len
 
 -- a primary is to come: behind what stands before the last `||`, behind what stands before the last `&&`, and behind so many `!`
 pub record Expects (t : List ℕ) (rest : List Token) (final : Condition) (pre out : List ℕ) (s : Clause) : Type 0 where
@@ -48,16 +48,16 @@ pub record Expects (t : List ℕ) (rest : List Token) (final : Condition) (pre o
   pub nots : ℕ
   pub first : Primary
   pub later : Tail
-  pub written : drop s.next t ≡ words (primaryTokens first (tailTokens later (mark RPAREN ∷ rest)))
-  pub means : endsAs before (andWith prior (negations nots (primaryOf first))) later ≡ final
-  pub holds : Holds out (pre ++ (orBytes before ++ (andBytes prior ++ notBytes nots))) s.len
-  pub place : s.and ≡ length pre + length (orBytes before)
-  pub room : length pre + length (conditionBytes final) ≤ length out
+  pub written : drop s.next t ≡ words (primary_tokens first (tail_tokens later (mark RPAREN ∷ rest)))
+  pub means : ends_as before (and_with prior (negations nots (primary_of first))) later ≡ final
+  pub holds : Holds out (pre ++ (or_bytes before ++ (and_bytes prior ++ not_bytes nots))) s.len
+  pub place : s.and ≡ length pre + length (or_bytes before)
+  pub room : length pre + length (condition_bytes final) ≤ length out
 
 -- the closing parenthesis is to come
 pub record Ended (t : List ℕ) (rest : List Token) (final : Condition) (pre out : List ℕ) (s : Clause) : Type 0 where
   pub written : drop s.next t ≡ 41 ∷ words rest
-  pub holds : Holds out (pre ++ conditionBytes final) s.len
+  pub holds : Holds out (pre ++ condition_bytes final) s.len
 
 -- one of the two
 abbrev pub State : List ℕ → List Token → Condition → List ℕ → List ℕ → Clause → Type 0
@@ -68,11 +68,11 @@ pub record Wrote (t : List ℕ) (rest : List Token) (final : Condition) (pre out
   pub before : Option Condition
   pub conjunct : Condition
   pub later : Tail
-  pub written : drop b.next t ≡ words (tailTokens later (mark RPAREN ∷ rest))
-  pub means : endsAs before conjunct later ≡ final
-  pub holds : Holds out (pre ++ (orBytes before ++ conditionBytes conjunct)) b.len
-  pub place : and ≡ length pre + length (orBytes before)
-  pub room : length pre + length (conditionBytes final) ≤ length out
+  pub written : drop b.next t ≡ words (tail_tokens later (mark RPAREN ∷ rest))
+  pub means : ends_as before conjunct later ≡ final
+  pub holds : Holds out (pre ++ (or_bytes before ++ condition_bytes conjunct)) b.len
+  pub place : and ≡ length pre + length (or_bytes before)
+  pub room : length pre + length (condition_bytes final) ≤ length out
 
 -- the writing goes on over `&&` or `||`, or has come to the closing parenthesis
 abbrev pub Connects : List ℕ → ℕ → List ℕ → List ℕ → ℕ → Block → Clause → Type 0

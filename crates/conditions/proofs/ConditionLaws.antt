@@ -10,23 +10,23 @@ use borrow.Author.Tests.{ne_eqb, ltb-true}
 use lib.Dec.{eqb, leb, ltb}
 use lib.ListN.{length, get_or, drop}
 use Rattle.tsparql.specs.Values.{Cell}
-use Rattle.tsparql.specs.Query.{Condition, bound, same, isTerm, less, negation, conjunction, disjunction, always}
+use Rattle.tsparql.specs.Query.{Condition, bound, same, is_term, less, negation, conjunction, disjunction, always}
 use Rattle.tsparql.specs.Conditions as Conditions
-use Rattle.tsparql.specs.Conditions.{truthOn}
-use Rattle.tsparql.specs.Reading.{Read, got, fault, and_then, require, kind_of, low_of, bits24, termSound, conditionStep, readCondition}
-use Rattle.tsparql.specs.Check.{noRefusal}
+use Rattle.tsparql.specs.Conditions.{truth_on}
+use Rattle.tsparql.specs.Reading.{Read, got, fault, and_then, require, kind_of, low_of, bits24, term_sound, condition_step, read_condition}
+use Rattle.tsparql.specs.Check.{no_refusal}
 use Rattle.tsparql.proofs.ListLaws.{and_right, and_left}
-use Rattle.tsparql.proofs.ReaderSteps.{readCondition-step}
-use Rattle.tsparql.proofs.WrittenRead.{ReadsCondition, readCondition-sound}
+use Rattle.tsparql.proofs.ReaderSteps.{read_condition-step}
+use Rattle.tsparql.proofs.WrittenRead.{ReadsCondition, read_condition-sound}
 use Rattle.heads.specs.declared.ConditionHead.{ConditionHead}
 use Rattle.heads.specs.declared.ConditionHead.TheVariants as C
-use Rattle.heads.specs.Answers.{faultIn}
-use Rattle.query.specs.Answers.{faultRefusal}
-use Rattle.heads.specs.Parts.{pairHead, termHead, conditionHeadRead, conditionOperands}
-use Rattle.query.specs.Parts.{mapRead, follow}
+use Rattle.heads.specs.Answers.{fault_in}
+use Rattle.query.specs.Answers.{fault_refusal}
+use Rattle.heads.specs.Parts.{pair_head, term_head, condition_head_read, condition_operands}
+use Rattle.query.specs.Parts.{map_read, follow}
 use Rattle.query.specs.Found.{IsGot}
 use Rattle.query.proofs.ReadLaws.{by_kind, no_kind, made_fault, made_by}
-use Rattle.conditions.specs.Truths.{truthIn, ConditionSound, foundCondition, conditionOf, HeadFormed, headTruth, Judges}
+use Rattle.conditions.specs.Truths.{truth_in, ConditionSound, found_condition, condition_of, HeadFormed, head_truth, Judges}
 use Rattle.conditions.specs.declared.Truth.{Truth}
 use Rattle.conditions.specs.declared.Judged.TheVariants as J
 
@@ -35,46 +35,46 @@ use Rattle.conditions.specs.declared.Judged.TheVariants as J
 module _ (s : List ℕ) where
   -- one condition from a place on
   abbrev one_at : ℕ → (Condition → Condition) → Read Condition
-  one_at own f = and_then own (readCondition (drop own s)) (λ c next. got (f c) next)
+  one_at own f = and_then own (read_condition (drop own s)) (λ c next. got (f c) next)
 
   -- two conditions from a place on
-  abbrev twoAt : ℕ → (Condition → Condition → Condition) → Read Condition
-  twoAt own f =
-      and_then own (readCondition (drop own s)) (λ c at. and_then at (readCondition (drop at s)) (λ d next. got (f c d) next))
+  abbrev two_at : ℕ → (Condition → Condition → Condition) → Read Condition
+  two_at own f =
+      and_then own (read_condition (drop own s)) (λ c at. and_then at (read_condition (drop at s)) (λ d next. got (f c d) next))
 
   -- the condition of a head, with its operands behind the head's own bytes
   abbrev tree_of : ConditionHead → ℕ → Read Condition
   tree_of (C.Bound v) own = got (bound v) own
   tree_of (C.Same v w) own = got (same v w) own
-  tree_of (C.IsTerm v a) own = got (isTerm v a) own
+  tree_of (C.IsTerm v a) own = got (is_term v a) own
   tree_of (C.Less v w) own = got (less v w) own
   tree_of C.Not own = one_at own negation
-  tree_of C.And own = twoAt own conjunction
-  tree_of C.Or own = twoAt own disjunction
+  tree_of C.And own = two_at own conjunction
+  tree_of C.Or own = two_at own disjunction
   tree_of C.True own = got always own
 
-  pair-tree : (n : ℕ) (isSame : Bool) (f : ℕ → ℕ → Condition)
-      → ((v w : ℕ) → tree_of (cond isSame (C.Same v w) (C.Less v w)) 2 ≡ got (f v w) 2)
-      → require (leb 2 (length s) && ltb (get_or s 1 0) 16) (got (f n (get_or s 1 0)) 2) ≡ follow (pairHead s n isSame) tree_of
-  pair-tree n isSame f h = go (leb 2 (length s) && ltb (get_or s 1 0) 16) refl
+  pair-tree : (n : ℕ) (is_same : Bool) (f : ℕ → ℕ → Condition)
+      → ((v w : ℕ) → tree_of (cond is_same (C.Same v w) (C.Less v w)) 2 ≡ got (f v w) 2)
+      → require (leb 2 (length s) && ltb (get_or s 1 0) 16) (got (f n (get_or s 1 0)) 2) ≡ follow (pair_head s n is_same) tree_of
+  pair-tree n is_same f h = go (leb 2 (length s) && ltb (get_or s 1 0) 16) refl
     where
       go : (b : Bool) → leb 2 (length s) && ltb (get_or s 1 0) 16 ≡ b
           → require b (got (f n (get_or s 1 0)) 2)
           ≡ follow (require (ltb (cond b (get_or s 1 0) 16) 16)
-          (got (cond isSame (C.Same n (cond b (get_or s 1 0) 16)) (C.Less n (cond b (get_or s 1 0) 16))) 2)) tree_of
+          (got (cond is_same (C.Same n (cond b (get_or s 1 0) 16)) (C.Less n (cond b (get_or s 1 0) 16))) 2)) tree_of
       go true e = rw (and_right (leb 2 (length s)) (ltb (get_or s 1 0) 16) e) (sym (h n (get_or s 1 0)))
       go false e = refl
 
   term-tree : (n : ℕ)
-      → require (leb 4 (length s) && termSound (bits24 s 1)) (got (isTerm n (bits24 s 1)) 4) ≡ follow (termHead s n) tree_of
-  term-tree n = go (leb 4 (length s) && termSound (bits24 s 1)) refl
+      → require (leb 4 (length s) && term_sound (bits24 s 1)) (got (is_term n (bits24 s 1)) 4) ≡ follow (term_head s n) tree_of
+  term-tree n = go (leb 4 (length s) && term_sound (bits24 s 1)) refl
     where
-      go : (b : Bool) → leb 4 (length s) && termSound (bits24 s 1) ≡ b
-          → require b (got (isTerm n (bits24 s 1)) 4)
+      go : (b : Bool) → leb 4 (length s) && term_sound (bits24 s 1) ≡ b
+          → require b (got (is_term n (bits24 s 1)) 4)
           ≡ follow (require (not (eqb (cond b (bits24 s 1) 0) 0)) (got (C.IsTerm n (cond b (bits24 s 1) 0)) 4)) tree_of
       go true e =
           let a = bits24 s 1 in
-          let t = and_left (ltb 0 a) (ltb a 1048576) (and_right (leb 4 (length s)) (termSound a) e) in
+          let t = and_left (ltb 0 a) (ltb a 1048576) (and_right (leb 4 (length s)) (term_sound a) e) in
           rw (ne_eqb a 0 (λ z. omega (arith, ltb-true 0 a t)))
       go false e = refl
 
@@ -84,11 +84,11 @@ module _ (s : List ℕ) where
   plain-tree false h = refl
 
   -- the head, and then its operands
-  condition-tree : readCondition s ≡ follow (conditionHeadRead s) tree_of
-  unfolding conditionStep conditionHeadRead
-  condition-tree = readCondition-step s ∙ go (eqb (length s) 0) refl
+  condition-tree : read_condition s ≡ follow (condition_head_read s) tree_of
+  unfolding condition_step condition_head_read
+  condition-tree = read_condition-step s ∙ go (eqb (length s) 0) refl
     where
-      go : (b : Bool) → eqb (length s) 0 ≡ b → conditionStep readCondition s ≡ follow (conditionHeadRead s) tree_of
+      go : (b : Bool) → eqb (length s) 0 ≡ b → condition_step read_condition s ≡ follow (condition_head_read s) tree_of
       go true e = rw e
       go false e =
           by_kind (kind_of s)
@@ -116,18 +116,18 @@ module _ (s : List ℕ) where
           none true = refl
           none false = refl
 
-  tree-at : {h : ConditionHead} {own : ℕ} → conditionHeadRead s ≡ got h own → readCondition s ≡ tree_of h own
+  tree-at : {h : ConditionHead} {own : ℕ} → condition_head_read s ≡ got h own → read_condition s ≡ tree_of h own
   tree-at e = condition-tree ∙ rw e
 
   -- a head's fault is the condition's
-  pub head-fault : {p : ℕ} → conditionHeadRead s ≡ fault p → readCondition s ≡ fault p
+  pub head-fault : {p : ℕ} → condition_head_read s ≡ fault p → read_condition s ≡ fault p
   head-fault e = condition-tree ∙ rw e
 
-  formed : {h : ConditionHead} {own : ℕ} → conditionHeadRead s ≡ got h own → ReadsCondition s (tree_of h own)
-  formed e = rw (tree-at e) at (readCondition-sound s)
+  formed : {h : ConditionHead} {own : ℕ} → condition_head_read s ≡ got h own → ReadsCondition s (tree_of h own)
+  formed e = rw (tree-at e) at (read_condition-sound s)
 
   -- the variables of a head that was read are in range
-  pub head-formed : (h : ConditionHead) (own : ℕ) → conditionHeadRead s ≡ got h own → HeadFormed h
+  pub head-formed : (h : ConditionHead) (own : ℕ) → condition_head_read s ≡ got h own → HeadFormed h
   head-formed (C.Bound v) own e = (formed e).0
   head-formed (C.Same v w) own e = (formed e).0
   head-formed (C.IsTerm v a) own e = (formed e).0.0
@@ -140,41 +140,41 @@ module _ (s : List ℕ) where
 -- ---- its truth on a row's cells
 
 -- a fault by its place
-pub fault-place : {A : Type 0} {r : Read A} {n p : ℕ} → r ≡ fault p → n ≡ faultIn r → r ≡ fault n
-fault-place e d = e ∙ ap fault (sym (d ∙ ap faultIn e))
+pub fault-place : {A : Type 0} {r : Read A} {n p : ℕ} → r ≡ fault p → n ≡ fault_in r → r ≡ fault n
+fault-place e d = e ∙ ap fault (sym (d ∙ ap fault_in e))
 
 module _ (s : List ℕ) (cs : List Cell) where
   abbrev T : Condition → Conditions.Truth
-  T = truthOn cs
+  T = truth_on cs
 
   -- the truth found from a place on
-  abbrev pub judgedAt : ℕ → Read Conditions.Truth
-  judgedAt at = mapRead T (readCondition (drop at s))
+  abbrev pub judged_at : ℕ → Read Conditions.Truth
+  judged_at at = map_read T (read_condition (drop at s))
 
   one-made : (f : Condition → Condition) (g : Conditions.Truth → Conditions.Truth) → ((c : Condition) → T (f c) ≡ g (T c))
-      → (own k : ℕ) (t : Conditions.Truth) → judgedAt own ≡ got t k → mapRead T (one_at s own f) ≡ got (g t) (own + k)
+      → (own k : ℕ) (t : Conditions.Truth) → judged_at own ≡ got t k → map_read T (one_at s own f) ≡ got (g t) (own + k)
   one-made f g h own k t e =
-      made_by T (λ r. mapRead T (and_then own r (λ c next. got (f c) next)) ≡ got (g t) (own + k)) (readCondition (drop own s)) t k e
+      made_by T (λ r. map_read T (and_then own r (λ c next. got (f c) next)) ≡ got (g t) (own + k)) (read_condition (drop own s)) t k e
       (λ c d. rw (h c, d))
 
-  second-made : (f : Condition → Condition → Condition) (own k p : ℕ) (t : Conditions.Truth) → judgedAt own ≡ got t k
-      → judgedAt (own + k) ≡ fault p → twoAt s own f ≡ fault (own + k + p)
+  second-made : (f : Condition → Condition → Condition) (own k p : ℕ) (t : Conditions.Truth) → judged_at own ≡ got t k
+      → judged_at (own + k) ≡ fault p → two_at s own f ≡ fault (own + k + p)
   second-made f own k p t e d =
-      made_by T (λ r. and_then own r (λ c at. one_at s at (f c)) ≡ fault (own + k + p)) (readCondition (drop own s)) t k e
-      (λ c _. rw (made_fault T (readCondition (drop (own + k) s)) p d))
+      made_by T (λ r. and_then own r (λ c at. one_at s at (f c)) ≡ fault (own + k + p)) (read_condition (drop own s)) t k e
+      (λ c _. rw (made_fault T (read_condition (drop (own + k) s)) p d))
 
   two_made : (f : Condition → Condition → Condition) (g : Conditions.Truth → Conditions.Truth → Conditions.Truth)
-      → ((c d : Condition) → T (f c d) ≡ g (T c) (T d)) → (own k m : ℕ) (t u : Conditions.Truth) → judgedAt own ≡ got t k
-      → judgedAt (own + k) ≡ got u m → mapRead T (twoAt s own f) ≡ got (g t u) (own + k + m)
+      → ((c d : Condition) → T (f c d) ≡ g (T c) (T d)) → (own k m : ℕ) (t u : Conditions.Truth) → judged_at own ≡ got t k
+      → judged_at (own + k) ≡ got u m → map_read T (two_at s own f) ≡ got (g t u) (own + k + m)
   two_made f g h own k m t u e d =
-      made_by T (λ r. mapRead T (and_then own r (λ c at. one_at s at (f c))) ≡ got (g t u) (own + k + m)) (readCondition (drop own s)) t k e
+      made_by T (λ r. map_read T (and_then own r (λ c at. one_at s at (f c))) ≡ got (g t u) (own + k + m)) (read_condition (drop own s)) t k e
       (λ c b. one-made (f c) (g t) (λ x. h c x ∙ rw b) (own + k) m u d)
 
   module _ (own : ℕ) where
     -- no operand
-    pub none-judged : (h : ConditionHead) (t u : Conditions.Truth) → conditionHeadRead s ≡ got h own → conditionOperands h ≡ 0
-        → mapRead T (readCondition s) ≡ got (headTruth cs h t u) own
-    unfolding truthOn
+    pub none-judged : (h : ConditionHead) (t u : Conditions.Truth) → condition_head_read s ≡ got h own → condition_operands h ≡ 0
+        → map_read T (read_condition s) ≡ got (head_truth cs h t u) own
+    unfolding truth_on
     none-judged (C.Bound v) t u e z = rw (tree-at s e)
     none-judged (C.Same v w) t u e z = rw (tree-at s e)
     none-judged (C.IsTerm v a) t u e z = rw (tree-at s e)
@@ -185,33 +185,33 @@ module _ (s : List ℕ) (cs : List Cell) where
     none-judged C.True t u e z = rw (tree-at s e)
 
     -- a fault of the first operand
-    pub first-fault : (h : ConditionHead) (p : ℕ) → conditionHeadRead s ≡ got h own → 1 ≤ conditionOperands h → judgedAt own ≡ fault p
-        → readCondition s ≡ fault (own + p)
+    pub first-fault : (h : ConditionHead) (p : ℕ) → condition_head_read s ≡ got h own → 1 ≤ condition_operands h → judged_at own ≡ fault p
+        → read_condition s ≡ fault (own + p)
     first-fault (C.Bound v) p e n f = absurd (omega arith)
     first-fault (C.Same v w) p e n f = absurd (omega arith)
     first-fault (C.IsTerm v a) p e n f = absurd (omega arith)
     first-fault (C.Less v w) p e n f = absurd (omega arith)
-    first-fault C.Not p e n f = tree-at s e ∙ rw (made_fault T (readCondition (drop own s)) p f)
-    first-fault C.And p e n f = tree-at s e ∙ rw (made_fault T (readCondition (drop own s)) p f)
-    first-fault C.Or p e n f = tree-at s e ∙ rw (made_fault T (readCondition (drop own s)) p f)
+    first-fault C.Not p e n f = tree-at s e ∙ rw (made_fault T (read_condition (drop own s)) p f)
+    first-fault C.And p e n f = tree-at s e ∙ rw (made_fault T (read_condition (drop own s)) p f)
+    first-fault C.Or p e n f = tree-at s e ∙ rw (made_fault T (read_condition (drop own s)) p f)
     first-fault C.True p e n f = absurd (omega arith)
 
     -- one operand
-    pub one-judged : (h : ConditionHead) (k : ℕ) (t u : Conditions.Truth) → conditionHeadRead s ≡ got h own → conditionOperands h ≡ 1
-        → judgedAt own ≡ got t k → mapRead T (readCondition s) ≡ got (headTruth cs h t u) (own + k)
-    unfolding truthOn
+    pub one-judged : (h : ConditionHead) (k : ℕ) (t u : Conditions.Truth) → condition_head_read s ≡ got h own → condition_operands h ≡ 1
+        → judged_at own ≡ got t k → map_read T (read_condition s) ≡ got (head_truth cs h t u) (own + k)
+    unfolding truth_on
     one-judged (C.Bound v) k t u e n f = absurd (omega arith)
     one-judged (C.Same v w) k t u e n f = absurd (omega arith)
     one-judged (C.IsTerm v a) k t u e n f = absurd (omega arith)
     one-judged (C.Less v w) k t u e n f = absurd (omega arith)
-    one-judged C.Not k t u e n f = rw (tree-at s e) (one-made negation Conditions.notTruth (λ c. refl) own k t f)
+    one-judged C.Not k t u e n f = rw (tree-at s e) (one-made negation Conditions.not_truth (λ c. refl) own k t f)
     one-judged C.And k t u e n f = absurd (omega arith)
     one-judged C.Or k t u e n f = absurd (omega arith)
     one-judged C.True k t u e n f = absurd (omega arith)
 
     -- a fault of the second operand
-    pub second-fault : (h : ConditionHead) (k p : ℕ) (t : Conditions.Truth) → conditionHeadRead s ≡ got h own → 2 ≤ conditionOperands h
-        → judgedAt own ≡ got t k → judgedAt (own + k) ≡ fault p → readCondition s ≡ fault (own + k + p)
+    pub second-fault : (h : ConditionHead) (k p : ℕ) (t : Conditions.Truth) → condition_head_read s ≡ got h own → 2 ≤ condition_operands h
+        → judged_at own ≡ got t k → judged_at (own + k) ≡ fault p → read_condition s ≡ fault (own + k + p)
     second-fault (C.Bound v) k p t e n f g = absurd (omega arith)
     second-fault (C.Same v w) k p t e n f g = absurd (omega arith)
     second-fault (C.IsTerm v a) k p t e n f g = absurd (omega arith)
@@ -222,39 +222,39 @@ module _ (s : List ℕ) (cs : List Cell) where
     second-fault C.True k p t e n f g = absurd (omega arith)
 
     -- two operands
-    pub two-judged : (h : ConditionHead) (k m : ℕ) (t u : Conditions.Truth) → conditionHeadRead s ≡ got h own → 2 ≤ conditionOperands h
-        → judgedAt own ≡ got t k → judgedAt (own + k) ≡ got u m → mapRead T (readCondition s) ≡ got (headTruth cs h t u) (own + k + m)
-    unfolding truthOn
+    pub two-judged : (h : ConditionHead) (k m : ℕ) (t u : Conditions.Truth) → condition_head_read s ≡ got h own → 2 ≤ condition_operands h
+        → judged_at own ≡ got t k → judged_at (own + k) ≡ got u m → map_read T (read_condition s) ≡ got (head_truth cs h t u) (own + k + m)
+    unfolding truth_on
     two-judged (C.Bound v) k m t u e n f g = absurd (omega arith)
     two-judged (C.Same v w) k m t u e n f g = absurd (omega arith)
     two-judged (C.IsTerm v a) k m t u e n f g = absurd (omega arith)
     two-judged (C.Less v w) k m t u e n f g = absurd (omega arith)
     two-judged C.Not k m t u e n f g = absurd (omega arith)
-    two-judged C.And k m t u e n f g = rw (tree-at s e) (two_made conjunction Conditions.andTruth (λ c d. refl) own k m t u f g)
-    two-judged C.Or k m t u e n f g = rw (tree-at s e) (two_made disjunction Conditions.orTruth (λ c d. refl) own k m t u f g)
+    two-judged C.And k m t u e n f g = rw (tree-at s e) (two_made conjunction Conditions.and_truth (λ c d. refl) own k m t u f g)
+    two-judged C.Or k m t u e n f g = rw (tree-at s e) (two_made disjunction Conditions.or_truth (λ c d. refl) own k m t u f g)
     two-judged C.True k m t u e n f g = absurd (omega arith)
 
   -- ---- the answer
 
-  pub judges-truth : (t : Truth) (u : Conditions.Truth) (n : ℕ) → truthIn t ≡ u → mapRead T (readCondition s) ≡ got u n
+  pub judges-truth : (t : Truth) (u : Conditions.Truth) (n : ℕ) → truth_in t ≡ u → map_read T (read_condition s) ≡ got u n
       → Judges s cs (J.Truth t n)
   judges-truth t u n e d =
       record {
         found = rw e (sym d);
-        refusal = made_by T (λ r. noRefusal ≡ faultRefusal r) (readCondition s) u n d (λ _ _. refl);
+        refusal = made_by T (λ r. no_refusal ≡ fault_refusal r) (read_condition s) u n d (λ _ _. refl);
       }
 
-  pub judges-refused : (p : ℕ) → readCondition s ≡ fault p → Judges s cs (J.Refused 6 p)
+  pub judges-refused : (p : ℕ) → read_condition s ≡ fault p → Judges s cs (J.Refused 6 p)
   judges-refused p e = record { found = sym (rw e); refusal = sym (rw e) }
 
 -- ---- what an answer tells its caller
 
 module _ {s : List ℕ} {cs : List Cell} where
   -- the truth is the condition's
-  pub judged-truth : {t : Truth} {n : ℕ} → Judges s cs (J.Truth t n) → truthIn t ≡ truthOn cs (conditionOf s)
+  pub judged-truth : {t : Truth} {n : ℕ} → Judges s cs (J.Truth t n) → truth_in t ≡ truth_on cs (condition_of s)
   judged-truth {t} {n} j =
-      made_by (truthOn cs) (λ r. truthIn t ≡ truthOn cs (foundCondition r)) (readCondition s) (truthIn t) n (sym j.found) (λ _ e. sym e)
+      made_by (truth_on cs) (λ r. truth_in t ≡ truth_on cs (found_condition r)) (read_condition s) (truth_in t) n (sym j.found) (λ _ e. sym e)
 
   -- a condition is not refused
   pub judged-sound : {n p : ℕ} → ConditionSound s → Judges s cs (J.Refused n p) → ⊥
-  judged-sound {n} {p} h j = subst IsGot (made_fault (truthOn cs) (readCondition s) p (sym j.found)) h
+  judged-sound {n} {p} h j = subst IsGot (made_fault (truth_on cs) (read_condition s) p (sym j.found)) h

@@ -5,14 +5,14 @@ use Rattle.std.specs.Prelude.{◌≡◌, List, ℕ}
 use Rattle.tsparql.specs.Values.{Cell, term, cell_at}
 use Rattle.tsparql.specs.Query.{Condition, always}
 use Rattle.tsparql.specs.Conditions as Conditions
-use Rattle.tsparql.specs.Conditions.{notTruth, andTruth, orTruth, boundTruth, sameTruth, lessTruth, truthOn}
-use Rattle.tsparql.specs.Reading.{Read, got, fault, readCondition}
+use Rattle.tsparql.specs.Conditions.{not_truth, and_truth, or_truth, bound_truth, same_truth, less_truth, truth_on}
+use Rattle.tsparql.specs.Reading.{Read, got, fault, read_condition}
 use Rattle.tsparql.specs.WellFormed.{VariableFormed}
-use Rattle.tsparql.specs.Check.{Refusal, refuse, noRefusal}
+use Rattle.tsparql.specs.Check.{Refusal, refuse, no_refusal}
 use Rattle.heads.specs.declared.ConditionHead.{ConditionHead}
 use Rattle.heads.specs.declared.ConditionHead.TheVariants as C
-use Rattle.query.specs.Answers.{faultRefusal}
-use Rattle.query.specs.Parts.{mapRead}
+use Rattle.query.specs.Answers.{fault_refusal}
+use Rattle.query.specs.Parts.{map_read}
 use Rattle.query.specs.Found.{IsGot}
 use Rattle.conditions.specs.declared.Truth.{Truth}
 use Rattle.conditions.specs.declared.Truth.TheVariants as T
@@ -20,25 +20,25 @@ use Rattle.conditions.specs.declared.Judged.{Judged}
 use Rattle.conditions.specs.declared.Judged.TheVariants as J
 
 -- the truth that a value of the code stands for
-abbrev pub truthIn : Truth → Conditions.Truth
-truthIn T.True = Conditions.holds
-truthIn T.False = Conditions.fails
-truthIn T.Error = Conditions.errs
+abbrev pub truth_in : Truth → Conditions.Truth
+truth_in T.True = Conditions.holds
+truth_in T.False = Conditions.fails
+truth_in T.Error = Conditions.errs
 
 -- ---- conditions of a query
 
 -- the part starts with a condition
 abbrev pub ConditionSound : List ℕ → Type 0
-ConditionSound s = IsGot (readCondition s)
+ConditionSound s = IsGot (read_condition s)
 
 -- the condition that was found; true stands in where there is none
-abbrev pub foundCondition : Read Condition → Condition
-foundCondition (got c n) = c
-foundCondition (fault p) = always
+abbrev pub found_condition : Read Condition → Condition
+found_condition (got c n) = c
+found_condition (fault p) = always
 
 -- the condition that the part starts with
-abbrev pub conditionOf : List ℕ → Condition
-conditionOf s = foundCondition (readCondition s)
+abbrev pub condition_of : List ℕ → Condition
+condition_of s = found_condition (read_condition s)
 
 -- ---- heads
 
@@ -54,29 +54,29 @@ HeadFormed C.Or = Unit {0}
 HeadFormed C.True = Unit {0}
 
 -- the truth of a condition on a row's cells, by its head and its operands' truths; those that a head has not do not matter
-abbrev pub headTruth : List Cell → ConditionHead → Conditions.Truth → Conditions.Truth → Conditions.Truth
-headTruth cs (C.Bound v) t u = boundTruth (cell_at cs v)
-headTruth cs (C.Same v w) t u = sameTruth (cell_at cs v) (cell_at cs w)
-headTruth cs (C.IsTerm v a) t u = sameTruth (cell_at cs v) (term a)
-headTruth cs (C.Less v w) t u = lessTruth (cell_at cs v) (cell_at cs w)
-headTruth cs C.Not t u = notTruth t
-headTruth cs C.And t u = andTruth t u
-headTruth cs C.Or t u = orTruth t u
-headTruth cs C.True t u = Conditions.holds
+abbrev pub head_truth : List Cell → ConditionHead → Conditions.Truth → Conditions.Truth → Conditions.Truth
+head_truth cs (C.Bound v) t u = bound_truth (cell_at cs v)
+head_truth cs (C.Same v w) t u = same_truth (cell_at cs v) (cell_at cs w)
+head_truth cs (C.IsTerm v a) t u = same_truth (cell_at cs v) (term a)
+head_truth cs (C.Less v w) t u = less_truth (cell_at cs v) (cell_at cs w)
+head_truth cs C.Not t u = not_truth t
+head_truth cs C.And t u = and_truth t u
+head_truth cs C.Or t u = or_truth t u
+head_truth cs C.True t u = Conditions.holds
 
 -- ---- the answer
 
 -- the truth and the next place, or the place of the fault
-abbrev pub judgedFound : Judged → Read Conditions.Truth
-judgedFound (J.Truth t n) = got (truthIn t) n
-judgedFound (J.Refused n p) = fault p
+abbrev pub judged_found : Judged → Read Conditions.Truth
+judged_found (J.Truth t n) = got (truth_in t) n
+judged_found (J.Refused n p) = fault p
 
 -- the refusal that the answer names
-abbrev pub judgedRefusal : Judged → Refusal
-judgedRefusal (J.Truth t n) = noRefusal
-judgedRefusal (J.Refused n p) = refuse n p
+abbrev pub judged_refusal : Judged → Refusal
+judged_refusal (J.Truth t n) = no_refusal
+judged_refusal (J.Refused n p) = refuse n p
 
 -- the answer is the truth of the part's condition on a row's cells, with the next place, or the refusal of its first fault
 pub record Judges (s : List ℕ) (cs : List Cell) (r : Judged) : Type 0 where
-  pub found : judgedFound r ≡ mapRead (truthOn cs) (readCondition s)
-  pub refusal : judgedRefusal r ≡ faultRefusal (readCondition s)
+  pub found : judged_found r ≡ map_read (truth_on cs) (read_condition s)
+  pub refusal : judged_refusal r ≡ fault_refusal (read_condition s)

@@ -2,15 +2,15 @@
 // they do not fit. What stands behind them is unchanged.
 ghost use Rattle.std.specs.Prelude.{◌≡◌, ◌+◌, ◌≤◌, ◌<◌, length};
 ghost use Rattle.std.proofs.lemmas.List.Edits.{sets};
-ghost use Rattle.tsparql.specs.Writing.{threeBytes};
-ghost use Rattle.encoding.specs.Writers.{firstBytes, boundsBytes, headBytes, WroteIfFits};
+ghost use Rattle.tsparql.specs.Writing.{three_bytes};
+ghost use Rattle.encoding.specs.Writers.{first_bytes, bounds_bytes, head_bytes, WroteIfFits};
 
 use heads::Head;
 
 // Three bytes of 24 bits from a place on.
 fn put_bits(out: &mut [u8], at: usize, x: u32)
     requires { (at + 3 ≤ length out.old) × (x < 16777216) }
-    ensures { out.new ≡ sets out.old at (threeBytes x) }
+    ensures { out.new ≡ sets out.old at (three_bytes x) }
 {
     out[at] = (x / 65536) as u8;
     out[at + 1] = (x / 256 % 256) as u8;
@@ -20,7 +20,7 @@ fn put_bits(out: &mut [u8], at: usize, x: u32)
 // A first byte.
 fn write_first(kind: u8, n: u8, out: &mut [u8]) -> usize
     requires { kind ≤ 7 }
-    ensures { WroteIfFits (firstBytes kind n) out.old out.new result }
+    ensures { WroteIfFits (first_bytes kind n) out.old out.new result }
 {
     if n < 16 {
         if 0 < out.len() {
@@ -33,7 +33,7 @@ fn write_first(kind: u8, n: u8, out: &mut [u8]) -> usize
 
 // Ensure trust with its bounds, plus 1000.
 fn write_bounds(l: u32, u: u32, out: &mut [u8]) -> usize
-    ensures { WroteIfFits (boundsBytes l u) out.old out.new result }
+    ensures { WroteIfFits (bounds_bytes l u) out.old out.new result }
 {
     if l <= 2000 {
         if u <= 2000 {
@@ -49,7 +49,7 @@ fn write_bounds(l: u32, u: u32, out: &mut [u8]) -> usize
 
 // A node's head at the front of the output, and how many bytes that is.
 pub fn write_head(h: Head, out: &mut [u8]) -> usize
-    ensures { WroteIfFits (headBytes h) out.old out.new result }
+    ensures { WroteIfFits (head_bytes h) out.old out.new result }
 {
     match h {
         Head::PatternSet(n) => write_first(0, n, out),

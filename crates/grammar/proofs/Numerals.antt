@@ -102,21 +102,21 @@ decimal-numeral n = decimal-numeral-below (suc n) n (le_refl (suc n))
 
 -- u is how the token is written, digit by digit
 pub data Spells : Token → List ℕ → Type 0 where
-  ofMark : {w : List ℕ} → Spells (mark w) w
-  ofVar : {n : ℕ} {w : List ℕ} → Numeral n w → Spells (var n) (63 ∷ w)
-  ofNum : {n : ℕ} {w : List ℕ} → Numeral n w → Spells (num n) w
-  ofNeg : {n : ℕ} {w : List ℕ} → Numeral n w → Spells (neg n) (45 ∷ w)
+  of_mark : {w : List ℕ} → Spells (mark w) w
+  of_var : {n : ℕ} {w : List ℕ} → Numeral n w → Spells (var n) (63 ∷ w)
+  of_num : {n : ℕ} {w : List ℕ} → Numeral n w → Spells (num n) w
+  of_neg : {n : ℕ} {w : List ℕ} → Numeral n w → Spells (neg n) (45 ∷ w)
 
 pub spells-spelling : {t : Token} {u : List ℕ} → Spells t u → u ≡ spelling t
 unfolding ascii
-spells-spelling ofMark = refl
-spells-spelling (ofVar h) = ap (λ (w : List ℕ). 63 ∷ w) (numeral-decimal h)
-spells-spelling (ofNum h) = numeral-decimal h
-spells-spelling (ofNeg h) = ap (λ (w : List ℕ). 45 ∷ w) (numeral-decimal h)
+spells-spelling of_mark = refl
+spells-spelling (of_var h) = ap (λ (w : List ℕ). 63 ∷ w) (numeral-decimal h)
+spells-spelling (of_num h) = numeral-decimal h
+spells-spelling (of_neg h) = ap (λ (w : List ℕ). 45 ∷ w) (numeral-decimal h)
 
 pub spelling-spells : (t : Token) → Spells t (spelling t)
 unfolding ascii
-spelling-spells (mark w) = ofMark
-spelling-spells (var n) = ofVar (decimal-numeral n)
-spelling-spells (num n) = ofNum (decimal-numeral n)
-spelling-spells (neg n) = ofNeg (decimal-numeral n)
+spelling-spells (mark w) = of_mark
+spelling-spells (var n) = of_var (decimal-numeral n)
+spelling-spells (num n) = of_num (decimal-numeral n)
+spelling-spells (neg n) = of_neg (decimal-numeral n)

@@ -15,7 +15,7 @@ use borrow.Author.Tests.{ltb-true, ltb-false}
 use Rattle.grammar.specs.Tokens.{Token, spelling, Written, done, space, token}
 use Rattle.grammar.specs.Grammar.{Query, tokens, Derives, Underivable, Viable}
 use Rattle.grammar.specs.Promise.{LongestStart}
-use Rattle.grammar.specs.Automaton.{Symbol, sLBrace, sBody, Outcome, accepted, fault, read, initial}
+use Rattle.grammar.specs.Automaton.{Symbol, s_lBrace, s_body, Outcome, accepted, fault, read, initial}
 use Rattle.grammar.proofs.Accepts.{Step, Accepts, then, tokens-accepted}
 use Rattle.grammar.proofs.Trees.{accepted-query}
 use Rattle.grammar.proofs.Numerals.{Spells, spelling-spells}
@@ -80,7 +80,7 @@ viable-shorter s j k h v =
           v.2,
     )
 
-viable-of : (p r : List ℕ) (ts : List Token) → Accepts (sLBrace ∷ sBody ∷ []) ts → Written false ts (p ++ r) → Viable p
+viable-of : (p r : List ℕ) (ts : List Token) → Accepts (s_lBrace ∷ s_body ∷ []) ts → Written false ts (p ++ r) → Viable p
 viable-of p r ts a w =
     let q = accepted-query a in
     (q.0, r, subst⁻¹ (λ (l : List Token). Written false l (p ++ r)) q.1 w)
@@ -91,11 +91,11 @@ longest-of s p h =
     record {
       inside = subst (λ (k : ℕ). k ≤ length s) e h.inside;
       viable = subst (λ (k : ℕ). Viable (take k s)) e
-          (viable-of (take h.count s) h.goesOn.1 h.goesOn.0 h.goesOn.2.0 h.goesOn.2.1);
+          (viable-of (take h.count s) h.goes_on.1 h.goes_on.0 h.goes_on.2.0 h.goes_on.2.1);
       longest = λ k l i v.
           let c : h.count < length s = omega arith in
           let w = viable-shorter s (suc h.count) k (omega arith) v in
-          h.noFurther c (tokens w.0) w.1 (tokens-accepted w.0, w.2);
+          h.no_further c (tokens w.0) w.1 (tokens-accepted w.0, w.2);
     }
 
 abbrev Faulted : List ℕ → Outcome → Type 0

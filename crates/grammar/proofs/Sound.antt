@@ -12,14 +12,14 @@ use lib.Dec.{eqb, leb}
 use lib.ListN.{get_or, drop}
 use borrow.Author.Tests.{eqb-true, eqb-false, leb-true, not-true}
 use Rattle.tsparql.proofs.ListLaws.{and_left, and_right}
-use Rattle.grammar.specs.Tokens.{Token, mark, var, num, neg, isWordOrNumber, isWordNumberOrVariable, isCapital, isSpace}
+use Rattle.grammar.specs.Tokens.{Token, mark, var, num, neg, is_word_or_number, is_word_number_or_variable, is_capital, is_space}
 use Rattle.grammar.specs.Tokens.{Written, done, space}
-use Rattle.grammar.specs.Automaton.{Symbol, Entry, marks, vars, terms, isBound, Kind, kNum, kNeg, tokenOf}
-use Rattle.grammar.specs.Automaton.{State, gap, inMark, first, inNumber, Move, stop, go, prepend, digit, within}
-use Rattle.grammar.specs.Automaton.{onMark, onVar, onTerm, onto, inGap, step, Outcome, accepted, fault, after, finish, run}
-use Rattle.grammar.proofs.Accepts.{Step, byMark, byVar, byTerm, byPlus, byMinus, Accepts, over, then}
+use Rattle.grammar.specs.Automaton.{Symbol, Entry, marks, vars, terms, is_bound, Kind, k_num, k_neg, token_of}
+use Rattle.grammar.specs.Automaton.{State, gap, in_mark, first, in_number, Move, stop, go, prepend, digit, within}
+use Rattle.grammar.specs.Automaton.{on_mark, on_var, on_term, onto, in_gap, step, Outcome, accepted, fault, after, finish, run}
+use Rattle.grammar.proofs.Accepts.{Step, by_mark, by_var, by_term, by_plus, by_minus, Accepts, over, then}
 use Rattle.grammar.proofs.Numerals.{IsDigit, Digits, more, numeral}
-use Rattle.grammar.proofs.Numerals.{Spells, ofMark, ofVar, ofNum, ofNeg}
+use Rattle.grammar.proofs.Numerals.{Spells, of_mark, of_var, of_num, of_neg}
 use Rattle.grammar.proofs.TableFacts.{Begins, fact_of, find-mem}
 use Rattle.grammar.proofs.Basics.{cond_cases}
 use Rattle.grammar.proofs.States.{InMark, InNumber, Rest, Good, ended, spelled, digit-true}
@@ -40,59 +40,59 @@ back-within st b (c ∷ w) t σ f = (tt, f)
 module _ (a : Bool) (X : Symbol) (σ : List Symbol) (b : ℕ) where
   -- a token at its first byte: that it may come, and how it is written
   back-token : {us : List Token} {s : List ℕ} {ts : List Token} (t : Token) (u r : List ℕ) {α : List Symbol} → us ≡ t ∷ ts → Step X t α
-      → Accepts (α ++ σ) ts → (a && isWordOrNumber t) ≡ false → Spells t u → b ∷ s ≡ u ++ r → Written (isWordNumberOrVariable t) ts r
+      → Accepts (α ++ σ) ts → (a && is_word_or_number t) ≡ false → Spells t u → b ∷ s ≡ u ++ r → Written (is_word_number_or_variable t) ts r
       → Rest (gap a (X ∷ σ)) us (b ∷ s)
   back-token {us} {s} t u r e st x h sp q w = (
     subst⁻¹ (Accepts (X ∷ σ)) e (then st x),
     subst⁻¹ (λ (l : List Token). Written a l (b ∷ s)) e (spelled t u r h sp q w),
   )
 
-  back-mark : (e : Entry) → Memᴰ e (marks X) → b ≡ get_or e.0 0 0 → Begins e → Back (gap a (X ∷ σ)) b (onMark a σ (some e))
+  back-mark : (e : Entry) → Memᴰ e (marks X) → b ≡ get_or e.0 0 0 → Begins e → Back (gap a (X ∷ σ)) b (on_mark a σ (some e))
   back-mark e m q f =
       let P = Back (gap a (X ∷ σ)) b in
-      cond_cases P (a && isCapital (get_or e.0 0 0)) (λ c. tt)
+      cond_cases P (a && is_capital (get_or e.0 0 0)) (λ c. tt)
       (λ c. back-within (gap a (X ∷ σ)) b (drop 1 e.0) (mark e.0) (e.1 ++ σ) (λ us s r.
-      back-token (mark e.0) e.0 r.tail r.same (byMark e.0 e.1 m) r.accepts c ofMark
+      back-token (mark e.0) e.0 r.tail r.same (by_mark e.0 e.1 m) r.accepts c of_mark
       (ap (λ (x : ℕ). x ∷ s) q ∙ ap (λ (l : List ℕ). get_or e.0 0 0 ∷ l) r.bytes ∙ ap (λ (l : List ℕ). l ++ r.tail) (sym f))
       r.written))
 
-  back-var : b ≡ 63 → (o : Option (List Symbol)) → vars X ≡ o → Back (gap a (X ∷ σ)) b (onVar σ o)
+  back-var : b ≡ 63 → (o : Option (List Symbol)) → vars X ≡ o → Back (gap a (X ∷ σ)) b (on_var σ o)
   back-var q none e = tt
   back-var q (some α) e = (
     (omega arith, omega arith),
-    λ us s r. back-token (var r.value) (63 ∷ r.digits) r.tail r.same (byVar r.value r.most e) r.accepts (B.and-false a)
-        (ofVar r.reads) (cc r.bytes) r.written,
+    λ us s r. back-token (var r.value) (63 ∷ r.digits) r.tail r.same (by_var r.value r.most e) r.accepts (B.and-false a)
+        (of_var r.reads) (cc r.bytes) r.written,
   )
 
-  back-minus : b ≡ 45 → (c : Bool) → (isBound X && B.not a) ≡ c → Back (gap a (X ∷ σ)) b (cond c (go [] (first 1 1000 kNeg σ)) stop)
+  back-minus : b ≡ 45 → (c : Bool) → (is_bound X && B.not a) ≡ c → Back (gap a (X ∷ σ)) b (cond c (go [] (first 1 1000 k_neg σ)) stop)
   back-minus q false e = tt
   back-minus q true e =
-      let h = and_left (isBound X) (B.not a) e in
-      let i = not-true a (and_right (isBound X) (B.not a) e) in (
+      let h = and_left (is_bound X) (B.not a) e in
+      let i = not-true a (and_right (is_bound X) (B.not a) e) in (
         (omega arith, omega arith),
-        λ us s r. back-token (neg r.value) (45 ∷ r.digits) r.tail r.same (byMinus r.value r.least r.most h)
-            r.accepts (B.and-true a ∙ i) (ofNeg r.reads) (cc r.bytes) r.written,
+        λ us s r. back-token (neg r.value) (45 ∷ r.digits) r.tail r.same (by_minus r.value r.least r.most h)
+            r.accepts (B.and-true a ∙ i) (of_neg r.reads) (cc r.bytes) r.written,
       )
 
   -- a number at its first digit
   back-num : {us : List Token} {s : List ℕ} (l u : ℕ) {α : List Symbol} → IsDigit b → a ≡ false
-      → (r : InNumber l u (λ w n. Digits (b - 48) w n) kNum (α ++ σ) us s) → Step X (num r.value) α → Rest (gap a (X ∷ σ)) us (b ∷ s)
+      → (r : InNumber l u (λ w n. Digits (b - 48) w n) k_num (α ++ σ) us s) → Step X (num r.value) α → Rest (gap a (X ∷ σ)) us (b ∷ s)
   back-num l u d q r st =
-      back-token (num r.value) (b ∷ r.digits) r.tail r.same st r.accepts (B.and-true a ∙ q) (ofNum (numeral b d r.reads))
+      back-token (num r.value) (b ∷ r.digits) r.tail r.same st r.accepts (B.and-true a ∙ q) (of_num (numeral b d r.reads))
       (cc r.bytes) r.written
 
-  back-bound : IsDigit b → a ≡ false → isBound X ≡ true → Back (gap a (X ∷ σ)) b (go [] (inNumber 1000 (b - 48) kNum σ))
+  back-bound : IsDigit b → a ≡ false → is_bound X ≡ true → Back (gap a (X ∷ σ)) b (go [] (in_number 1000 (b - 48) k_num σ))
   back-bound d q e =
       let h = d.most in
-      (omega arith, λ us s r. back-num (b - 48) 1000 {α = []} d q r (byPlus r.value r.most e))
+      (omega arith, λ us s r. back-num (b - 48) 1000 {α = []} d q r (by_plus r.value r.most e))
 
-  back-term : IsDigit b → a ≡ false → isBound X ≡ false → (o : Option (List Symbol)) → terms X ≡ o → Back (gap a (X ∷ σ)) b (onTerm b σ o)
+  back-term : IsDigit b → a ≡ false → is_bound X ≡ false → (o : Option (List Symbol)) → terms X ≡ o → Back (gap a (X ∷ σ)) b (on_term b σ o)
   back-term d q f none e = tt
   back-term d q f (some α) e =
       cond_cases (Back (gap a (X ∷ σ)) b) (eqb b 48) (λ z. tt) (λ z.
       let h = d.most in
       let l : 1 ≤ b - 48 = let i = d.least in let n = eqb-false b 48 z in omega arith in
-      (omega arith, λ us s r. back-num (b - 48) 1048575 {α = α} d q r (byTerm r.value (le_trans l r.least) r.most e f)))
+      (omega arith, λ us s r. back-num (b - 48) 1048575 {α = α} d q r (by_term r.value (le_trans l r.least) r.most e f)))
 
 back-onto : (a : Bool) (σ : List Symbol) (b : ℕ) → Back (gap a σ) b (onto a σ b)
 unfolding onto
@@ -100,19 +100,19 @@ back-onto a [] b = tt
 back-onto a (X ∷ σ) b =
     let P = Back (gap a (X ∷ σ)) b in
     cond_cases P (eqb b 63) (λ q. back-var a X σ b (eqb-true b 63 q) (vars X) refl) (λ q.
-    cond_cases P (eqb b 45) (λ q. back-minus a X σ b (eqb-true b 45 q) (isBound X && B.not a) refl) (λ q.
+    cond_cases P (eqb b 45) (λ q. back-minus a X σ b (eqb-true b 45 q) (is_bound X && B.not a) refl) (λ q.
     cond_cases P (digit b)
     (λ d. cond_cases P a (λ t. tt) (λ t.
-    cond_cases P (isBound X) (λ h. back-bound a X σ b (digit-true b d) t h) (λ h. back-term a X σ b (digit-true b d) t h (terms X) refl)))
-    (λ d. find-mem b (marks X) (λ o. P (onMark a σ o)) tt (λ e m h. back-mark a X σ b e m h (fact_of X m).begins))))
+    cond_cases P (is_bound X) (λ h. back-bound a X σ b (digit-true b d) t h) (λ h. back-term a X σ b (digit-true b d) t h (terms X) refl)))
+    (λ d. find-mem b (marks X) (λ o. P (on_mark a σ o)) tt (λ e m h. back-mark a X σ b e m h (fact_of X m).begins))))
 
-back-gap : (a : Bool) (σ : List Symbol) (b : ℕ) → Back (gap a σ) b (inGap a σ b)
+back-gap : (a : Bool) (σ : List Symbol) (b : ℕ) → Back (gap a σ) b (in_gap a σ b)
 back-gap a σ b =
-    cond_cases (Back (gap a σ) b) (isSpace b) (λ e. (tt, λ us s r. (r.0, space b e r.1))) (λ e. back-onto a σ b)
+    cond_cases (Back (gap a σ) b) (is_space b) (λ e. (tt, λ us s r. (r.0, space b e r.1))) (λ e. back-onto a σ b)
 
 -- a number that ends before the byte
 back-number : (u v : ℕ) (k : Kind) (σ : List Symbol) (b : ℕ) → v ≤ u → (m : Move) → Back (gap true σ) b m
-    → Back (inNumber u v k σ) b (prepend (tokenOf k v) m)
+    → Back (in_number u v k σ) b (prepend (token_of k v) m)
 back-number u v k σ b h stop f = tt
 back-number u v k σ b h (go ts st) f = (f.0, λ us s r. let g = f.1 us s r in ended u v k σ (ts ++ us) (b ∷ s) h g.0 g.1)
 
@@ -136,9 +136,9 @@ longer b h r reads =
 
 pub back : (st : State) (b : ℕ) → Good st → Back st b (step st b)
 back (gap a σ) b g = back-gap a σ b
-back (inMark c w t σ) b g =
-    cond_cases (Back (inMark c w t σ) b) (eqb b c)
-    (λ e. back-within (inMark c w t σ) b w t σ (λ us s r.
+back (in_mark c w t σ) b g =
+    cond_cases (Back (in_mark c w t σ) b) (eqb b c)
+    (λ e. back-within (in_mark c w t σ) b w t σ (λ us s r.
     record {
       tail = r.tail;
       tokens = r.tokens;
@@ -157,15 +157,15 @@ back (first l u k σ) b g =
     let nine : 9 ≤ u = g.1 in
     (omega arith, λ us s r. longer b i r (numeral b d r.reads)))
     (λ e. tt)
-back (inNumber u v k σ) b g =
-    cond_cases (Back (inNumber u v k σ) b) (digit b && (leb 1 v && leb (v * 10 + (b - 48)) u))
+back (in_number u v k σ) b g =
+    cond_cases (Back (in_number u v k σ) b) (digit b && (leb 1 v && leb (v * 10 + (b - 48)) u))
     (λ e.
     let d = digit-true b (and_left (digit b) (leb 1 v && leb (v * 10 + (b - 48)) u) e) in
     let f = and_right (digit b) (leb 1 v && leb (v * 10 + (b - 48)) u) e in
     let l = leb-true 1 v (and_left (leb 1 v) (leb (v * 10 + (b - 48)) u) f) in
     let m = leb-true _ _ (and_right (leb 1 v) (leb (v * 10 + (b - 48)) u) f) in
     (m, λ us s r. longer b (omega arith) r (more b l d r.reads)))
-    (λ e. back-number u v k σ b g (inGap true σ b) (back-gap true σ b))
+    (λ e. back-number u v k σ b g (in_gap true σ b) (back-gap true σ b))
 
 -- ---- sound: what is accepted from a state is what the state stands for
 
@@ -176,10 +176,10 @@ Sound st s (fault n) = Unit {0}
 sound-end : (st : State) (n : ℕ) → Good st → Sound st [] (finish n st)
 sound-end (gap a []) n g = (over, done)
 sound-end (gap a (X ∷ σ)) n g = tt
-sound-end (inMark c w t σ) n g = tt
+sound-end (in_mark c w t σ) n g = tt
 sound-end (first l u k σ) n g = tt
-sound-end (inNumber u v k []) n g = ended u v k [] [] [] g over done
-sound-end (inNumber u v k (X ∷ σ)) n g = tt
+sound-end (in_number u v k []) n g = ended u v k [] [] [] g over done
+sound-end (in_number u v k (X ∷ σ)) n g = tt
 
 sound-after : (st st' : State) (b : ℕ) (s : List ℕ) (ts : List Token) (o : Outcome) → Sound st' s o
     → ((us : List Token) (r : List ℕ) → Rest st' us r → Rest st (ts ++ us) (b ∷ r)) → Sound st (b ∷ s) (after ts o)

@@ -9,10 +9,10 @@ use native.Mathlib.Nat.{le_refl}
 use lib.Dec.{leb}
 use borrow.Author.Tests.{leb-true, le-leb}
 use Rattle.tsparql.proofs.ListLaws.{and_left, and_right}
-use Rattle.grammar.specs.Tokens.{Token, isWordOrNumber, isWordNumberOrVariable}
+use Rattle.grammar.specs.Tokens.{Token, is_word_or_number, is_word_number_or_variable}
 use Rattle.grammar.specs.Tokens.{Written, token}
-use Rattle.grammar.specs.Automaton.{Symbol, Kind, tokenOf}
-use Rattle.grammar.specs.Automaton.{State, gap, inMark, first, inNumber, digit}
+use Rattle.grammar.specs.Automaton.{Symbol, Kind, token_of}
+use Rattle.grammar.specs.Automaton.{State, gap, in_mark, first, in_number, digit}
 use Rattle.grammar.proofs.Accepts.{Accepts}
 use Rattle.grammar.proofs.Numerals.{IsDigit, Digits, Numeral}
 use Rattle.grammar.proofs.Numerals.{Spells, spells-spelling}
@@ -26,7 +26,7 @@ pub record InMark (w : List ℕ) (t : Token) (σ : List Symbol) (ts : List Token
   pub bytes : s ≡ w ++ tail
   pub same : ts ≡ t ∷ tokens
   pub accepts : Accepts σ tokens
-  pub written : Written (isWordNumberOrVariable t) tokens tail
+  pub written : Written (is_word_number_or_variable t) tokens tail
 
 -- Digs says which digits give which value
 pub record InNumber (l u : ℕ) (Digs : List ℕ → ℕ → Type 0) (k : Kind) (σ : List Symbol) (ts : List Token) (s : List ℕ) : Type 0 where
@@ -35,7 +35,7 @@ pub record InNumber (l u : ℕ) (Digs : List ℕ → ℕ → Type 0) (k : Kind) 
   pub tail : List ℕ
   pub tokens : List Token
   pub bytes : s ≡ digits ++ tail
-  pub same : ts ≡ tokenOf k value ∷ tokens
+  pub same : ts ≡ token_of k value ∷ tokens
   pub reads : Digs digits value
   pub least : l ≤ value
   pub most : value ≤ u
@@ -44,20 +44,20 @@ pub record InNumber (l u : ℕ) (Digs : List ℕ → ℕ → Type 0) (k : Kind) 
 
 abbrev pub Rest : State → List Token → List ℕ → Type 0
 Rest (gap a σ) ts s = Accepts σ ts × Written a ts s
-Rest (inMark c w t σ) ts s = InMark (c ∷ w) t σ ts s
+Rest (in_mark c w t σ) ts s = InMark (c ∷ w) t σ ts s
 Rest (first l u k σ) ts s = InNumber l u (λ w n. Numeral n w) k σ ts s
-Rest (inNumber u v k σ) ts s = InNumber v u (λ w n. Digits v w n) k σ ts s
+Rest (in_number u v k σ) ts s = InNumber v u (λ w n. Digits v w n) k σ ts s
 
 -- what holds of every state that is reached
 abbrev pub Good : State → Type 0
 Good (gap a σ) = Unit {0}
-Good (inMark c w t σ) = Unit {0}
+Good (in_mark c w t σ) = Unit {0}
 Good (first l u k σ) = (l ≤ 1) × (9 ≤ u)
-Good (inNumber u v k σ) = v ≤ u
+Good (in_number u v k σ) = v ≤ u
 
 -- a number that has just ended, before what follows
 pub ended : (u v : ℕ) (k : Kind) (σ : List Symbol) (ts : List Token) (s : List ℕ) → v ≤ u → Accepts σ ts → Written true ts s
-    → Rest (inNumber u v k σ) (tokenOf k v ∷ ts) s
+    → Rest (in_number u v k σ) (token_of k v ∷ ts) s
 ended u v k σ ts s h x y =
     record {
       value = v;
@@ -74,8 +74,8 @@ ended u v k σ ts s h x y =
     }
 
 -- a token by its bytes, digit by digit
-pub spelled : {a : Bool} {ts : List Token} {s : List ℕ} (t : Token) (u r : List ℕ) → (a && isWordOrNumber t) ≡ false → Spells t u
-    → s ≡ u ++ r → Written (isWordNumberOrVariable t) ts r → Written a (t ∷ ts) s
+pub spelled : {a : Bool} {ts : List Token} {s : List ℕ} (t : Token) (u r : List ℕ) → (a && is_word_or_number t) ≡ false → Spells t u
+    → s ≡ u ++ r → Written (is_word_number_or_variable t) ts r → Written a (t ∷ ts) s
 spelled t u r h sp q w = token t r h (q ∙ ap (λ (l : List ℕ). l ++ r) (spells-spelling sp)) w
 
 -- ---- digits

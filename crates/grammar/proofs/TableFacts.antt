@@ -10,9 +10,9 @@ use lib.ListN.{get_or, drop}
 use borrow.Author.Tests.{eqb-true}
 use Rattle.tsparql.specs.Lists.{Every}
 use Rattle.tsparql.specs.Strikes.{ascii}
-use Rattle.grammar.specs.Tokens.{isSpace}
-use Rattle.grammar.specs.Automaton.{Symbol, sBody, sAfterTriple, sAfterElement, sAfterGroup, sSlot, sVar, sBound}
-use Rattle.grammar.specs.Automaton.{sPrimary, sNegatable, sRelation, sTail, sLBrace, sLParen, sRParen, sComma, sAS, sTRUST}
+use Rattle.grammar.specs.Tokens.{is_space}
+use Rattle.grammar.specs.Automaton.{Symbol, s_body, s_after_triple, s_after_element, s_after_group, s_slot, s_var, s_bound}
+use Rattle.grammar.specs.Automaton.{s_primary, s_negatable, s_relation, s_tail, s_lBrace, s_lParen, s_rParen, s_comma, s_aS, s_tRUST}
 use Rattle.grammar.specs.Automaton.{Entry, marks, digit, find}
 use Rattle.grammar.proofs.Basics.{cond_cases, every-member}
 
@@ -22,34 +22,34 @@ Begins e = e.0 ≡ get_or e.0 0 0 ∷ drop 1 e.0
 
 pub record MarkFact (X : Symbol) (e : Entry) : Type 0 where
   pub begins : Begins e
-  pub noSpace : isSpace (get_or e.0 0 0) ≡ false
-  pub noQuery : eqb (get_or e.0 0 0) 63 ≡ false
-  pub noMinus : eqb (get_or e.0 0 0) 45 ≡ false
-  pub noDigit : digit (get_or e.0 0 0) ≡ false
+  pub no_space : is_space (get_or e.0 0 0) ≡ false
+  pub no_query : eqb (get_or e.0 0 0) 63 ≡ false
+  pub no_minus : eqb (get_or e.0 0 0) 45 ≡ false
+  pub no_digit : digit (get_or e.0 0 0) ≡ false
   pub found : find (get_or e.0 0 0) (marks X) ≡ some e
 
-markFacts : (X : Symbol) → Every (MarkFact X) (marks X)
+mark_facts : (X : Symbol) → Every (MarkFact X) (marks X)
 unfolding ascii
-markFacts sBody = search
-markFacts sAfterTriple = search
-markFacts sAfterElement = search
-markFacts sAfterGroup = search
-markFacts sSlot = tt
-markFacts sVar = tt
-markFacts sBound = tt
-markFacts sPrimary = search
-markFacts sNegatable = search
-markFacts sRelation = search
-markFacts sTail = search
-markFacts sLBrace = search
-markFacts sLParen = search
-markFacts sRParen = search
-markFacts sComma = search
-markFacts sAS = search
-markFacts sTRUST = search
+mark_facts s_body = search
+mark_facts s_after_triple = search
+mark_facts s_after_element = search
+mark_facts s_after_group = search
+mark_facts s_slot = tt
+mark_facts s_var = tt
+mark_facts s_bound = tt
+mark_facts s_primary = search
+mark_facts s_negatable = search
+mark_facts s_relation = search
+mark_facts s_tail = search
+mark_facts s_lBrace = search
+mark_facts s_lParen = search
+mark_facts s_rParen = search
+mark_facts s_comma = search
+mark_facts s_aS = search
+mark_facts s_tRUST = search
 
 pub fact_of : (X : Symbol) {e : Entry} → Memᴰ e (marks X) → MarkFact X e
-fact_of X m = every-member (MarkFact X) (marks X) (markFacts X) m
+fact_of X m = every-member (MarkFact X) (marks X) (mark_facts X) m
 
 -- what is found has the first byte, and is among the entries
 pub find-mem :

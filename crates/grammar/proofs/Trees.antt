@@ -12,17 +12,17 @@ use Rattle.grammar.specs.Tokens as T
 use Rattle.grammar.specs.Grammar.{Variable, Term, Slot, term, variable, Thousandths, plus, minus}
 use Rattle.grammar.specs.Grammar.{Disjunction, conjuncts, either, Conjunction, single, both}
 use Rattle.grammar.specs.Grammar.{Primary, negatable, equal, less, Negatable, bound, not, parens}
-use Rattle.grammar.specs.Grammar.{Body, end, triple, tripleDot, element, elementDot, Query, tokens}
-use Rattle.grammar.specs.Grammar.{Element, groups, optional, filter, trustAs, ensure, Unions, andUnion}
-use Rattle.grammar.specs.Grammar.{disjunctionTokens, conjunctionTokens, primaryTokens, negatableTokens}
-use Rattle.grammar.specs.Grammar.{bodyTokens, elementTokens, unionsTokens}
-use Rattle.grammar.specs.Grammar.{slotToken, variableToken, thousandthsToken}
+use Rattle.grammar.specs.Grammar.{Body, end, triple, triple_dot, element, element_dot, Query, tokens}
+use Rattle.grammar.specs.Grammar.{Element, groups, optional, filter, trust_as, ensure, Unions, and_union}
+use Rattle.grammar.specs.Grammar.{disjunction_tokens, conjunction_tokens, primary_tokens, negatable_tokens}
+use Rattle.grammar.specs.Grammar.{body_tokens, element_tokens, unions_tokens}
+use Rattle.grammar.specs.Grammar.{slot_token, variable_token, thousandths_token}
 use Rattle.grammar.specs.Grammar as G
-use Rattle.grammar.specs.Automaton.{Symbol, sBody, sAfterTriple, sAfterElement, sAfterGroup, sSlot, sVar, sBound}
-use Rattle.grammar.specs.Automaton.{sPrimary, sNegatable, sRelation, sTail, sLBrace, sLParen, sRParen, sComma, sAS, sTRUST}
-use Rattle.grammar.specs.Automaton.{Entry, elements, negatables, marks, vars, terms, isBound}
+use Rattle.grammar.specs.Automaton.{Symbol, s_body, s_after_triple, s_after_element, s_after_group, s_slot, s_var, s_bound}
+use Rattle.grammar.specs.Automaton.{s_primary, s_negatable, s_relation, s_tail, s_lBrace, s_lParen, s_rParen, s_comma, s_aS, s_tRUST}
+use Rattle.grammar.specs.Automaton.{Entry, elements, negatables, marks, vars, terms, is_bound}
 use Rattle.grammar.proofs.Basics.{every-member}
-use Rattle.grammar.proofs.Accepts.{Step, byMark, byVar, byTerm, byPlus, byMinus, Accepts, over, then}
+use Rattle.grammar.proofs.Accepts.{Step, by_mark, by_var, by_term, by_plus, by_minus, Accepts, over, then}
 
 -- ---- conditions
 
@@ -30,36 +30,36 @@ use Rattle.grammar.proofs.Accepts.{Step, byMark, byVar, byTerm, byPlus, byMinus,
 data Tail : Type 0 where
   closed : Tail
   and_then : Primary → Tail → Tail
-  orThen : Primary → Tail → Tail
+  or_then : Primary → Tail → Tail
 
-abbrev tailTokens : Tail → List Token → List Token
-tailTokens closed k = mark T.RPAREN ∷ k
-tailTokens (and_then p t) k = mark T.AND ∷ primaryTokens p (tailTokens t k)
-tailTokens (orThen p t) k = mark T.OR ∷ primaryTokens p (tailTokens t k)
+abbrev tail_tokens : Tail → List Token → List Token
+tail_tokens closed k = mark T.RPAREN ∷ k
+tail_tokens (and_then p t) k = mark T.AND ∷ primary_tokens p (tail_tokens t k)
+tail_tokens (or_then p t) k = mark T.OR ∷ primary_tokens p (tail_tokens t k)
 
 attached : (Conjunction → Disjunction) → Conjunction → Tail → Disjunction
 attached f c closed = f c
 attached f c (and_then p t) = attached f (both c p) t
-attached f c (orThen p t) = attached (either (f c)) (single p) t
+attached f c (or_then p t) = attached (either (f c)) (single p) t
 
 attached-tokens : (f : Conjunction → Disjunction) (pre : List Token → List Token)
-    → ((c : Conjunction) (k : List Token) → disjunctionTokens (f c) k ≡ pre (conjunctionTokens c k))
+    → ((c : Conjunction) (k : List Token) → disjunction_tokens (f c) k ≡ pre (conjunction_tokens c k))
     → (c : Conjunction) (t : Tail) (k : List Token)
-    → disjunctionTokens (attached f c t) (mark T.RPAREN ∷ k) ≡ pre (conjunctionTokens c (tailTokens t k))
+    → disjunction_tokens (attached f c t) (mark T.RPAREN ∷ k) ≡ pre (conjunction_tokens c (tail_tokens t k))
 unfolding attached
 attached-tokens f pre h c closed k = h c (mark T.RPAREN ∷ k)
 attached-tokens f pre h c (and_then p t) k = attached-tokens f pre h (both c p) t k
-attached-tokens f pre h c (orThen p t) k =
-    attached-tokens (either (f c)) (λ (l : List Token). disjunctionTokens (f c) (mark T.OR ∷ l)) (λ d l. refl) (single p) t k
-    ∙ h c (mark T.OR ∷ primaryTokens p (tailTokens t k))
+attached-tokens f pre h c (or_then p t) k =
+    attached-tokens (either (f c)) (λ (l : List Token). disjunction_tokens (f c) (mark T.OR ∷ l)) (λ d l. refl) (single p) t k
+    ∙ h c (mark T.OR ∷ primary_tokens p (tail_tokens t k))
 
-inParens : Primary → Tail → Disjunction
-inParens p t = attached conjuncts (single p) t
+in_parens : Primary → Tail → Disjunction
+in_parens p t = attached conjuncts (single p) t
 
-inParens-tokens : (p : Primary) (t : Tail) (k : List Token)
-    → disjunctionTokens (inParens p t) (mark T.RPAREN ∷ k) ≡ primaryTokens p (tailTokens t k)
-unfolding inParens
-inParens-tokens p t k = attached-tokens conjuncts (λ (l : List Token). l) (λ c l. refl) (single p) t k
+in_parens-tokens : (p : Primary) (t : Tail) (k : List Token)
+    → disjunction_tokens (in_parens p t) (mark T.RPAREN ∷ k) ≡ primary_tokens p (tail_tokens t k)
+unfolding in_parens
+in_parens-tokens p t k = attached-tokens conjuncts (λ (l : List Token). l) (λ c l. refl) (single p) t k
 
 -- ---- the trees of a stack
 
@@ -71,51 +71,51 @@ abbrev AfterElement : Type 0
 AfterElement = Body true ⊎ Body true
 
 abbrev dotted : {m : Bool} → Body true ⊎ Body m → List Token → List Token
-dotted (inl b) k = mark T.DOT ∷ bodyTokens b k
-dotted (inr b) k = bodyTokens b k
+dotted (inl b) k = mark T.DOT ∷ body_tokens b k
+dotted (inr b) k = body_tokens b k
 
 -- the tree that a symbol stands for
 abbrev Val : Symbol → Type 0
-Val sBody = Body true
-Val sAfterTriple = AfterTriple
-Val sAfterElement = AfterElement
-Val sAfterGroup = Unions × AfterElement
-Val sSlot = Slot
-Val sVar = Variable
-Val sBound = Thousandths
-Val sPrimary = Primary
-Val sNegatable = Negatable
-Val sRelation = Slot ⊎ Variable
-Val sTail = Tail
-Val sLBrace = Unit {0}
-Val sLParen = Unit {0}
-Val sRParen = Unit {0}
-Val sComma = Unit {0}
-Val sAS = Unit {0}
-Val sTRUST = Unit {0}
+Val s_body = Body true
+Val s_after_triple = AfterTriple
+Val s_after_element = AfterElement
+Val s_after_group = Unions × AfterElement
+Val s_slot = Slot
+Val s_var = Variable
+Val s_bound = Thousandths
+Val s_primary = Primary
+Val s_negatable = Negatable
+Val s_relation = Slot ⊎ Variable
+Val s_tail = Tail
+Val s_lBrace = Unit {0}
+Val s_lParen = Unit {0}
+Val s_rParen = Unit {0}
+Val s_comma = Unit {0}
+Val s_aS = Unit {0}
+Val s_tRUST = Unit {0}
 
 abbrev relation : Slot ⊎ Variable → List Token → List Token
-relation (inl s) k = mark T.EQUAL ∷ slotToken s ∷ k
-relation (inr v) k = mark T.LESS ∷ variableToken v ∷ k
+relation (inl s) k = mark T.EQUAL ∷ slot_token s ∷ k
+relation (inr v) k = mark T.LESS ∷ variable_token v ∷ k
 
 abbrev yield : (X : Symbol) → Val X → List Token → List Token
-yield sBody b k = bodyTokens b k
-yield sAfterTriple x k = dotted x k
-yield sAfterElement x k = dotted x k
-yield sAfterGroup x k = unionsTokens x.0 (dotted x.1 k)
-yield sSlot s k = slotToken s ∷ k
-yield sVar v k = variableToken v ∷ k
-yield sBound x k = thousandthsToken x ∷ k
-yield sPrimary p k = primaryTokens p k
-yield sNegatable n k = negatableTokens n k
-yield sRelation r k = relation r k
-yield sTail t k = tailTokens t k
-yield sLBrace x k = mark T.LBRACE ∷ k
-yield sLParen x k = mark T.LPAREN ∷ k
-yield sRParen x k = mark T.RPAREN ∷ k
-yield sComma x k = mark T.COMMA ∷ k
-yield sAS x k = mark T.AS ∷ k
-yield sTRUST x k = mark T.TRUST ∷ k
+yield s_body b k = body_tokens b k
+yield s_after_triple x k = dotted x k
+yield s_after_element x k = dotted x k
+yield s_after_group x k = unions_tokens x.0 (dotted x.1 k)
+yield s_slot s k = slot_token s ∷ k
+yield s_var v k = variable_token v ∷ k
+yield s_bound x k = thousandths_token x ∷ k
+yield s_primary p k = primary_tokens p k
+yield s_negatable n k = negatable_tokens n k
+yield s_relation r k = relation r k
+yield s_tail t k = tail_tokens t k
+yield s_lBrace x k = mark T.LBRACE ∷ k
+yield s_lParen x k = mark T.LPAREN ∷ k
+yield s_rParen x k = mark T.RPAREN ∷ k
+yield s_comma x k = mark T.COMMA ∷ k
+yield s_aS x k = mark T.AS ∷ k
+yield s_tRUST x k = mark T.TRUST ∷ k
 
 abbrev Vals : List Symbol → Type 0
 Vals [] = Unit {0}
@@ -132,7 +132,7 @@ abbrev Built : Symbol → List Symbol → List Token → Type 0
 Built X σ ts = (v : Val X) × (vs : Vals σ) × (yield X v (yields σ vs) ≡ ts)
 
 abbrev BuiltBody : Bool → List Symbol → List Token → Type 0
-BuiltBody m σ ts = (b : Body m) × (vs : Vals σ) × (bodyTokens b (yields σ vs) ≡ ts)
+BuiltBody m σ ts = (b : Body m) × (vs : Vals σ) × (body_tokens b (yields σ vs) ≡ ts)
 
 abbrev FromMark : Symbol → List Symbol → Entry → Type 0
 FromMark X σ e = (vs : Vals (e.1 ++ σ)) → Built X σ (mark e.0 ∷ yields (e.1 ++ σ) vs)
@@ -141,16 +141,16 @@ abbrev FromMarkBody : Bool → List Symbol → Entry → Type 0
 FromMarkBody m σ e = (vs : Vals (e.1 ++ σ)) → BuiltBody m σ (mark e.0 ∷ yields (e.1 ++ σ) vs)
 
 put : {m : Bool} → Element → AfterElement → Body m
-put e (inl b) = elementDot e b
+put e (inl b) = element_dot e b
 put e (inr b) = element e b
 
-put-tokens : (m : Bool) (e : Element) (x : AfterElement) (k : List Token) → bodyTokens (put {m = m} e x) k ≡ elementTokens e (dotted x k)
+put-tokens : (m : Bool) (e : Element) (x : AfterElement) (k : List Token) → body_tokens (put {m = m} e x) k ≡ element_tokens e (dotted x k)
 unfolding put
 put-tokens m e (inl b) k = refl
 put-tokens m e (inr b) k = refl
 
-elementsBuilt : (m : Bool) (σ : List Symbol) → Every (FromMarkBody m σ) elements
-elementsBuilt m σ = (
+elements_built : (m : Bool) (σ : List Symbol) → Every (FromMarkBody m σ) elements
+elements_built m σ = (
   (λ vs. (end, vs, refl)),
   (
     (λ vs. (put (groups vs.0 vs.1.0.0) vs.1.0.1, vs.1.1, put-tokens m _ vs.1.0.1 _)),
@@ -158,13 +158,13 @@ elementsBuilt m σ = (
       (λ vs. (put (optional vs.1.0) vs.1.1.0, vs.1.1.1, put-tokens m _ vs.1.1.0 _)),
       (
         (λ vs. (
-          put (filter (inParens vs.1.0 vs.1.1.0)) vs.1.1.1.0,
+          put (filter (in_parens vs.1.0 vs.1.1.0)) vs.1.1.1.0,
           vs.1.1.1.1,
           put-tokens m _ vs.1.1.1.0 _
-              ∙ ap (λ (l : List Token). mark T.FILTER ∷ mark T.LPAREN ∷ l) (inParens-tokens vs.1.0 vs.1.1.0 _),
+              ∙ ap (λ (l : List Token). mark T.FILTER ∷ mark T.LPAREN ∷ l) (in_parens-tokens vs.1.0 vs.1.1.0 _),
         )),
         (
-          (λ vs. (put (trustAs vs.1.0) vs.1.1.0, vs.1.1.1, put-tokens m _ vs.1.1.0 _)),
+          (λ vs. (put (trust_as vs.1.0) vs.1.1.0, vs.1.1.1, put-tokens m _ vs.1.1.0 _)),
           (
             (λ vs. (
               put (ensure vs.1.1.0 vs.1.1.1.1.0) vs.1.1.1.1.1.1.0,
@@ -179,164 +179,164 @@ elementsBuilt m σ = (
   ),
 )
 
-negatablesBuilt : (σ : List Symbol) → Every (FromMark sNegatable σ) negatables
-negatablesBuilt σ = (
+negatables_built : (σ : List Symbol) → Every (FromMark s_negatable σ) negatables
+negatables_built σ = (
   (λ vs. (bound vs.1.0, vs.1.1.1, refl)),
   (
     (λ vs. (not vs.0, vs.1, refl)),
     (
       (λ vs. (
-        parens (inParens vs.0 vs.1.0),
+        parens (in_parens vs.0 vs.1.0),
         vs.1.1,
-        ap (λ (l : List Token). mark T.LPAREN ∷ l) (inParens-tokens vs.0 vs.1.0 _),
+        ap (λ (l : List Token). mark T.LPAREN ∷ l) (in_parens-tokens vs.0 vs.1.0 _),
       )),
       tt,
     ),
   ),
 )
 
-marksBuilt : (X : Symbol) (σ : List Symbol) → Every (FromMark X σ) (marks X)
-marksBuilt sBody σ = elementsBuilt true σ
-marksBuilt sAfterTriple σ = (
+marks_built : (X : Symbol) (σ : List Symbol) → Every (FromMark X σ) (marks X)
+marks_built s_body σ = elements_built true σ
+marks_built s_after_triple σ = (
   (λ vs. (inl vs.0, vs.1, refl)),
-  every-weaken {P = FromMarkBody false σ} {Q = FromMark sAfterTriple σ}
-      (λ e h vs. let r = h vs in (inr r.0, r.1, r.2)) elements (elementsBuilt false σ),
+  every-weaken {P = FromMarkBody false σ} {Q = FromMark s_after_triple σ}
+      (λ e h vs. let r = h vs in (inr r.0, r.1, r.2)) elements (elements_built false σ),
 )
-marksBuilt sAfterElement σ = (
+marks_built s_after_element σ = (
   (λ vs. (inl vs.0, vs.1, refl)),
-  every-weaken {P = FromMarkBody true σ} {Q = FromMark sAfterElement σ}
-      (λ e h vs. let r = h vs in (inr r.0, r.1, r.2)) elements (elementsBuilt true σ),
+  every-weaken {P = FromMarkBody true σ} {Q = FromMark s_after_element σ}
+      (λ e h vs. let r = h vs in (inr r.0, r.1, r.2)) elements (elements_built true σ),
 )
-marksBuilt sAfterGroup σ = (
-  (λ vs. ((andUnion vs.1.0 vs.1.1.0.0, vs.1.1.0.1), vs.1.1.1, refl)),
+marks_built s_after_group σ = (
+  (λ vs. ((and_union vs.1.0 vs.1.1.0.0, vs.1.1.0.1), vs.1.1.1, refl)),
   (
     (λ vs. ((G.none, inl vs.0), vs.1, refl)),
-    every-weaken {P = FromMarkBody true σ} {Q = FromMark sAfterGroup σ}
-        (λ e h vs. let r = h vs in ((G.none, inr r.0), r.1, r.2)) elements (elementsBuilt true σ),
+    every-weaken {P = FromMarkBody true σ} {Q = FromMark s_after_group σ}
+        (λ e h vs. let r = h vs in ((G.none, inr r.0), r.1, r.2)) elements (elements_built true σ),
   ),
 )
-marksBuilt sSlot σ = tt
-marksBuilt sVar σ = tt
-marksBuilt sBound σ = tt
-marksBuilt sPrimary σ =
-    every-weaken {P = FromMark sNegatable σ} {Q = FromMark sPrimary σ} (λ e h vs. let r = h vs in (negatable r.0, r.1, r.2)) negatables
-    (negatablesBuilt σ)
-marksBuilt sNegatable σ = negatablesBuilt σ
-marksBuilt sRelation σ = ((λ vs. (inl vs.0, vs.1, refl)), ((λ vs. (inr vs.0, vs.1, refl)), tt))
-marksBuilt sTail σ = (
+marks_built s_slot σ = tt
+marks_built s_var σ = tt
+marks_built s_bound σ = tt
+marks_built s_primary σ =
+    every-weaken {P = FromMark s_negatable σ} {Q = FromMark s_primary σ} (λ e h vs. let r = h vs in (negatable r.0, r.1, r.2)) negatables
+    (negatables_built σ)
+marks_built s_negatable σ = negatables_built σ
+marks_built s_relation σ = ((λ vs. (inl vs.0, vs.1, refl)), ((λ vs. (inr vs.0, vs.1, refl)), tt))
+marks_built s_tail σ = (
   (λ vs. (closed, vs, refl)),
   (
     (λ vs. (and_then vs.0 vs.1.0, vs.1.1, refl)),
-    ((λ vs. (orThen vs.0 vs.1.0, vs.1.1, refl)), tt),
+    ((λ vs. (or_then vs.0 vs.1.0, vs.1.1, refl)), tt),
   ),
 )
-marksBuilt sLBrace σ = ((λ vs. (tt, vs, refl)), tt)
-marksBuilt sLParen σ = ((λ vs. (tt, vs, refl)), tt)
-marksBuilt sRParen σ = ((λ vs. (tt, vs, refl)), tt)
-marksBuilt sComma σ = ((λ vs. (tt, vs, refl)), tt)
-marksBuilt sAS σ = ((λ vs. (tt, vs, refl)), tt)
-marksBuilt sTRUST σ = ((λ vs. (tt, vs, refl)), tt)
+marks_built s_lBrace σ = ((λ vs. (tt, vs, refl)), tt)
+marks_built s_lParen σ = ((λ vs. (tt, vs, refl)), tt)
+marks_built s_rParen σ = ((λ vs. (tt, vs, refl)), tt)
+marks_built s_comma σ = ((λ vs. (tt, vs, refl)), tt)
+marks_built s_aS σ = ((λ vs. (tt, vs, refl)), tt)
+marks_built s_tRUST σ = ((λ vs. (tt, vs, refl)), tt)
 
 -- a variable or a term that begins a body
 triple_of : Slot → Slot → AfterTriple → Slot → Body true
-triple_of y z (inl b) x = tripleDot x y z b
+triple_of y z (inl b) x = triple_dot x y z b
 triple_of y z (inr b) x = triple x y z b
 
-tripleOf-tokens : (x y z : Slot) (r : AfterTriple) (k : List Token)
-    → bodyTokens (triple_of y z r x) k ≡ slotToken x ∷ slotToken y ∷ slotToken z ∷ dotted r k
+triple_of-tokens : (x y z : Slot) (r : AfterTriple) (k : List Token)
+    → body_tokens (triple_of y z r x) k ≡ slot_token x ∷ slot_token y ∷ slot_token z ∷ dotted r k
 unfolding triple_of
-tripleOf-tokens x y z (inl b) k = refl
-tripleOf-tokens x y z (inr b) k = refl
+triple_of-tokens x y z (inl b) k = refl
+triple_of-tokens x y z (inr b) k = refl
 
-slotBuilt : (X : Symbol) (σ : List Symbol) (s : Slot) (o : Option (List Symbol)) → Type 0
-slotBuilt X σ s none = Unit {0}
-slotBuilt X σ s (some α) = (vs : Vals (α ++ σ)) → Built X σ (slotToken s ∷ yields (α ++ σ) vs)
+slot_built : (X : Symbol) (σ : List Symbol) (s : Slot) (o : Option (List Symbol)) → Type 0
+slot_built X σ s none = Unit {0}
+slot_built X σ s (some α) = (vs : Vals (α ++ σ)) → Built X σ (slot_token s ∷ yields (α ++ σ) vs)
 
 -- the body that a first slot and the values behind it begin
-tripleBuilt : (x : Slot) (σ : List Symbol) (vs : Vals (sSlot ∷ sSlot ∷ sAfterTriple ∷ σ))
-    → BuiltBody true σ (slotToken x ∷ yields (sSlot ∷ sSlot ∷ sAfterTriple ∷ σ) vs)
-tripleBuilt x σ vs = (triple_of vs.0 vs.1.0 vs.1.1.0 x, vs.1.1.1, tripleOf-tokens x _ _ vs.1.1.0 _)
+triple_built : (x : Slot) (σ : List Symbol) (vs : Vals (s_slot ∷ s_slot ∷ s_after_triple ∷ σ))
+    → BuiltBody true σ (slot_token x ∷ yields (s_slot ∷ s_slot ∷ s_after_triple ∷ σ) vs)
+triple_built x σ vs = (triple_of vs.0 vs.1.0 vs.1.1.0 x, vs.1.1.1, triple_of-tokens x _ _ vs.1.1.0 _)
 
-varsBuilt : (X : Symbol) (σ : List Symbol) (v : Variable) → slotBuilt X σ (variable v) (vars X)
-unfolding slotBuilt
-varsBuilt sBody σ v = tripleBuilt (variable v) σ
-varsBuilt sAfterTriple σ v = tt
-varsBuilt sAfterElement σ v = λ vs. let r = tripleBuilt (variable v) σ vs in (inr r.0, r.1, r.2)
-varsBuilt sAfterGroup σ v = λ vs. let r = tripleBuilt (variable v) σ vs in ((G.none, inr r.0), r.1, r.2)
-varsBuilt sSlot σ v = λ vs. (variable v, vs, refl)
-varsBuilt sVar σ v = λ vs. (v, vs, refl)
-varsBuilt sBound σ v = tt
-varsBuilt sPrimary σ v = λ vs. (related v vs.0, vs.1, related-tokens v vs.0 _)
+vars_built : (X : Symbol) (σ : List Symbol) (v : Variable) → slot_built X σ (variable v) (vars X)
+unfolding slot_built
+vars_built s_body σ v = triple_built (variable v) σ
+vars_built s_after_triple σ v = tt
+vars_built s_after_element σ v = λ vs. let r = triple_built (variable v) σ vs in (inr r.0, r.1, r.2)
+vars_built s_after_group σ v = λ vs. let r = triple_built (variable v) σ vs in ((G.none, inr r.0), r.1, r.2)
+vars_built s_slot σ v = λ vs. (variable v, vs, refl)
+vars_built s_var σ v = λ vs. (v, vs, refl)
+vars_built s_bound σ v = tt
+vars_built s_primary σ v = λ vs. (related v vs.0, vs.1, related-tokens v vs.0 _)
   where
     related : Variable → Slot ⊎ Variable → Primary
     related v (inl s) = equal v s
     related v (inr w) = less v w
 
-    related-tokens : (v : Variable) (r : Slot ⊎ Variable) (k : List Token) → primaryTokens (related v r) k ≡ variableToken v ∷ relation r k
+    related-tokens : (v : Variable) (r : Slot ⊎ Variable) (k : List Token) → primary_tokens (related v r) k ≡ variable_token v ∷ relation r k
     related-tokens v (inl s) k = refl
     related-tokens v (inr w) k = refl
-varsBuilt sNegatable σ v = tt
-varsBuilt sRelation σ v = tt
-varsBuilt sTail σ v = tt
-varsBuilt sLBrace σ v = tt
-varsBuilt sLParen σ v = tt
-varsBuilt sRParen σ v = tt
-varsBuilt sComma σ v = tt
-varsBuilt sAS σ v = tt
-varsBuilt sTRUST σ v = tt
+vars_built s_negatable σ v = tt
+vars_built s_relation σ v = tt
+vars_built s_tail σ v = tt
+vars_built s_lBrace σ v = tt
+vars_built s_lParen σ v = tt
+vars_built s_rParen σ v = tt
+vars_built s_comma σ v = tt
+vars_built s_aS σ v = tt
+vars_built s_tRUST σ v = tt
 
-termsBuilt : (X : Symbol) (σ : List Symbol) (t : Term) → slotBuilt X σ (term t) (terms X)
-unfolding slotBuilt
-termsBuilt sBody σ t = tripleBuilt (term t) σ
-termsBuilt sAfterTriple σ t = tt
-termsBuilt sAfterElement σ t = λ vs. let r = tripleBuilt (term t) σ vs in (inr r.0, r.1, r.2)
-termsBuilt sAfterGroup σ t = λ vs. let r = tripleBuilt (term t) σ vs in ((G.none, inr r.0), r.1, r.2)
-termsBuilt sSlot σ t = λ vs. (term t, vs, refl)
-termsBuilt sVar σ t = tt
-termsBuilt sBound σ t = tt
-termsBuilt sPrimary σ t = tt
-termsBuilt sNegatable σ t = tt
-termsBuilt sRelation σ t = tt
-termsBuilt sTail σ t = tt
-termsBuilt sLBrace σ t = tt
-termsBuilt sLParen σ t = tt
-termsBuilt sRParen σ t = tt
-termsBuilt sComma σ t = tt
-termsBuilt sAS σ t = tt
-termsBuilt sTRUST σ t = tt
+terms_built : (X : Symbol) (σ : List Symbol) (t : Term) → slot_built X σ (term t) (terms X)
+unfolding slot_built
+terms_built s_body σ t = triple_built (term t) σ
+terms_built s_after_triple σ t = tt
+terms_built s_after_element σ t = λ vs. let r = triple_built (term t) σ vs in (inr r.0, r.1, r.2)
+terms_built s_after_group σ t = λ vs. let r = triple_built (term t) σ vs in ((G.none, inr r.0), r.1, r.2)
+terms_built s_slot σ t = λ vs. (term t, vs, refl)
+terms_built s_var σ t = tt
+terms_built s_bound σ t = tt
+terms_built s_primary σ t = tt
+terms_built s_negatable σ t = tt
+terms_built s_relation σ t = tt
+terms_built s_tail σ t = tt
+terms_built s_lBrace σ t = tt
+terms_built s_lParen σ t = tt
+terms_built s_rParen σ t = tt
+terms_built s_comma σ t = tt
+terms_built s_aS σ t = tt
+terms_built s_tRUST σ t = tt
 
-boundsBuilt : (X : Symbol) (σ : List Symbol) (x : Thousandths) → isBound X ≡ true → (vs : Vals σ)
-    → Built X σ (thousandthsToken x ∷ yields σ vs)
-boundsBuilt sBody σ x e vs = absurd (false≢true e)
-boundsBuilt sAfterTriple σ x e vs = absurd (false≢true e)
-boundsBuilt sAfterElement σ x e vs = absurd (false≢true e)
-boundsBuilt sAfterGroup σ x e vs = absurd (false≢true e)
-boundsBuilt sSlot σ x e vs = absurd (false≢true e)
-boundsBuilt sVar σ x e vs = absurd (false≢true e)
-boundsBuilt sBound σ x e vs = (x, vs, refl)
-boundsBuilt sPrimary σ x e vs = absurd (false≢true e)
-boundsBuilt sNegatable σ x e vs = absurd (false≢true e)
-boundsBuilt sRelation σ x e vs = absurd (false≢true e)
-boundsBuilt sTail σ x e vs = absurd (false≢true e)
-boundsBuilt sLBrace σ x e vs = absurd (false≢true e)
-boundsBuilt sLParen σ x e vs = absurd (false≢true e)
-boundsBuilt sRParen σ x e vs = absurd (false≢true e)
-boundsBuilt sComma σ x e vs = absurd (false≢true e)
-boundsBuilt sAS σ x e vs = absurd (false≢true e)
-boundsBuilt sTRUST σ x e vs = absurd (false≢true e)
+bounds_built : (X : Symbol) (σ : List Symbol) (x : Thousandths) → is_bound X ≡ true → (vs : Vals σ)
+    → Built X σ (thousandths_token x ∷ yields σ vs)
+bounds_built s_body σ x e vs = absurd (false≢true e)
+bounds_built s_after_triple σ x e vs = absurd (false≢true e)
+bounds_built s_after_element σ x e vs = absurd (false≢true e)
+bounds_built s_after_group σ x e vs = absurd (false≢true e)
+bounds_built s_slot σ x e vs = absurd (false≢true e)
+bounds_built s_var σ x e vs = absurd (false≢true e)
+bounds_built s_bound σ x e vs = (x, vs, refl)
+bounds_built s_primary σ x e vs = absurd (false≢true e)
+bounds_built s_negatable σ x e vs = absurd (false≢true e)
+bounds_built s_relation σ x e vs = absurd (false≢true e)
+bounds_built s_tail σ x e vs = absurd (false≢true e)
+bounds_built s_lBrace σ x e vs = absurd (false≢true e)
+bounds_built s_lParen σ x e vs = absurd (false≢true e)
+bounds_built s_rParen σ x e vs = absurd (false≢true e)
+bounds_built s_comma σ x e vs = absurd (false≢true e)
+bounds_built s_aS σ x e vs = absurd (false≢true e)
+bounds_built s_tRUST σ x e vs = absurd (false≢true e)
 
-stepBuilt : {X : Symbol} {t : Token} {α : List Symbol} (σ : List Symbol) → Step X t α → (vs : Vals (α ++ σ))
+step_built : {X : Symbol} {t : Token} {α : List Symbol} (σ : List Symbol) → Step X t α → (vs : Vals (α ++ σ))
     → Built X σ (t ∷ yields (α ++ σ) vs)
-unfolding slotBuilt
-stepBuilt {X} σ (byMark w α h) vs = every-member (FromMark X σ) (marks X) (marksBuilt X σ) h vs
-stepBuilt {X} σ (byVar n h e) vs =
+unfolding slot_built
+step_built {X} σ (by_mark w α h) vs = every-member (FromMark X σ) (marks X) (marks_built X σ) h vs
+step_built {X} σ (by_var n h e) vs =
     let v : Variable = record { name = n; small = h } in
-    subst (slotBuilt X σ (variable v)) e (varsBuilt X σ v) vs
-stepBuilt {X} σ (byTerm n l h e f) vs =
+    subst (slot_built X σ (variable v)) e (vars_built X σ v) vs
+step_built {X} σ (by_term n l h e f) vs =
     let t : Term = record { number = n; least = l; most = h } in
-    subst (slotBuilt X σ (term t)) e (termsBuilt X σ t) vs
-stepBuilt {X} σ (byPlus n h e) vs = boundsBuilt X σ (plus n h) e vs
-stepBuilt {X} σ (byMinus n l h e) vs = boundsBuilt X σ (minus n l h) e vs
+    subst (slot_built X σ (term t)) e (terms_built X σ t) vs
+step_built {X} σ (by_plus n h e) vs = bounds_built X σ (plus n h) e vs
+step_built {X} σ (by_minus n l h e) vs = bounds_built X σ (minus n l h) e vs
 
 -- ---- what is accepted
 
@@ -345,8 +345,8 @@ accepted-trees : {σ : List Symbol} {ts : List Token} → Accepts σ ts → (vs 
 accepted-trees over = (tt, refl)
 accepted-trees {σ = X ∷ σ} (then {t = t} s a) =
     let r = accepted-trees a in
-    let b = stepBuilt σ s r.0 in
+    let b = step_built σ s r.0 in
     ((b.0, b.1), b.2 ∙ ap (λ (l : List Token). t ∷ l) r.1)
 
-pub accepted-query : {ts : List Token} → Accepts (sLBrace ∷ sBody ∷ []) ts → (q : Query) × (tokens q ≡ ts)
+pub accepted-query : {ts : List Token} → Accepts (s_lBrace ∷ s_body ∷ []) ts → (q : Query) × (tokens q ≡ ts)
 accepted-query a = let r = accepted-trees a in (r.0.1.0, r.1)

@@ -4,7 +4,7 @@
 -- and '9' are 63, 45, 48 and 57. Assumes nothing.
 use Rattle.std.specs.Prelude.{Bool, true, false, cond, ◌&&◌, not, List, [], ◌∷◌, ◌++◌, ℕ, suc, ◌+◌, ◌*◌, ◌-◌, eqb, leb, get_or, drop}
 use Rattle.std.proofs.Math.Option.{Option, none, some}
-use Rattle.grammar.specs.Tokens.{Token, mark, var, num, neg, isSpace, isCapital, isWordNumberOrVariable}
+use Rattle.grammar.specs.Tokens.{Token, mark, var, num, neg, is_space, is_capital, is_word_number_or_variable}
 use Rattle.grammar.specs.Tokens as T
 
 -- ---- what has still to come
@@ -12,13 +12,13 @@ use Rattle.grammar.specs.Tokens as T
 -- what a stack holds
 pub data Symbol : Type 0 where
   -- a body, and what may follow a triple, an element, a group in one
-  sBody sAfterTriple sAfterElement sAfterGroup : Symbol
+  s_body s_after_triple s_after_element s_after_group : Symbol
   -- a slot, a variable, a number of thousandths
-  sSlot sVar sBound : Symbol
+  s_slot s_var s_bound : Symbol
   -- parts of a condition; after the variable that begins one; after a primary, up to the closing parenthesis
-  sPrimary sNegatable sRelation sTail : Symbol
+  s_primary s_negatable s_relation s_tail : Symbol
   -- one fixed token
-  sLBrace sLParen sRParen sComma sAS sTRUST : Symbol
+  s_lBrace s_lParen s_rParen s_comma s_aS s_tRUST : Symbol
 
 -- a fixed token, and what has to come after it
 abbrev pub Entry : Type 0
@@ -28,53 +28,53 @@ Entry = List ℕ × List Symbol
 pub record Choices : Type 0 where
   pub vars : Option (List Symbol)
   pub terms : Option (List Symbol)
-  pub isBound : Bool
+  pub is_bound : Bool
   pub marks : List Entry
 
 -- only fixed tokens
 abbrev pub fixed : List Entry → Choices
-fixed es = record { vars = none; terms = none; isBound = false; marks = es }
+fixed es = record { vars = none; terms = none; is_bound = false; marks = es }
 
 -- fixed tokens, or a triple by its first slot
-abbrev pub orTriple : List Entry → Choices
-orTriple es =
-    let others = sSlot ∷ sSlot ∷ sAfterTriple ∷ [] in
-    record { vars = some others; terms = some others; isBound = false; marks = es }
+abbrev pub or_triple : List Entry → Choices
+or_triple es =
+    let others = s_slot ∷ s_slot ∷ s_after_triple ∷ [] in
+    record { vars = some others; terms = some others; is_bound = false; marks = es }
 
 -- the end of a group, or an element
 abbrev pub elements : List Entry
 elements =
     (T.RBRACE, []) ∷
-    (T.LBRACE, sBody ∷ sAfterGroup ∷ []) ∷
-    (T.OPTIONAL, sLBrace ∷ sBody ∷ sAfterElement ∷ []) ∷
-    (T.FILTER, sLParen ∷ sPrimary ∷ sTail ∷ sAfterElement ∷ []) ∷
-    (T.TRUST, sAS ∷ sVar ∷ sAfterElement ∷ []) ∷
-    (T.ENSURE, sTRUST ∷ sLParen ∷ sBound ∷ sComma ∷ sBound ∷ sRParen ∷ sAfterElement ∷ []) ∷ []
+    (T.LBRACE, s_body ∷ s_after_group ∷ []) ∷
+    (T.OPTIONAL, s_lBrace ∷ s_body ∷ s_after_element ∷ []) ∷
+    (T.FILTER, s_lParen ∷ s_primary ∷ s_tail ∷ s_after_element ∷ []) ∷
+    (T.TRUST, s_aS ∷ s_var ∷ s_after_element ∷ []) ∷
+    (T.ENSURE, s_tRUST ∷ s_lParen ∷ s_bound ∷ s_comma ∷ s_bound ∷ s_rParen ∷ s_after_element ∷ []) ∷ []
 
 abbrev pub dot : Entry
-dot = (T.DOT, sBody ∷ [])
+dot = (T.DOT, s_body ∷ [])
 
 abbrev pub negatables : List Entry
-negatables = (T.BOUND, sLParen ∷ sVar ∷ sRParen ∷ []) ∷ (T.NOT, sNegatable ∷ []) ∷ (T.LPAREN, sPrimary ∷ sTail ∷ []) ∷ []
+negatables = (T.BOUND, s_lParen ∷ s_var ∷ s_rParen ∷ []) ∷ (T.NOT, s_negatable ∷ []) ∷ (T.LPAREN, s_primary ∷ s_tail ∷ []) ∷ []
 
 abbrev pub choices : Symbol → Choices
-choices sBody = orTriple elements
-choices sAfterTriple = fixed (dot ∷ elements)
-choices sAfterElement = orTriple (dot ∷ elements)
-choices sAfterGroup = orTriple ((T.UNION, sLBrace ∷ sBody ∷ sAfterGroup ∷ []) ∷ dot ∷ elements)
-choices sSlot = record { vars = some []; terms = some []; isBound = false; marks = [] }
-choices sVar = record { vars = some []; terms = none; isBound = false; marks = [] }
-choices sBound = record { vars = none; terms = none; isBound = true; marks = [] }
-choices sPrimary = record { vars = some (sRelation ∷ []); terms = none; isBound = false; marks = negatables }
-choices sNegatable = fixed negatables
-choices sRelation = fixed ((T.EQUAL, sSlot ∷ []) ∷ (T.LESS, sVar ∷ []) ∷ [])
-choices sTail = fixed ((T.RPAREN, []) ∷ (T.AND, sPrimary ∷ sTail ∷ []) ∷ (T.OR, sPrimary ∷ sTail ∷ []) ∷ [])
-choices sLBrace = fixed ((T.LBRACE, []) ∷ [])
-choices sLParen = fixed ((T.LPAREN, []) ∷ [])
-choices sRParen = fixed ((T.RPAREN, []) ∷ [])
-choices sComma = fixed ((T.COMMA, []) ∷ [])
-choices sAS = fixed ((T.AS, []) ∷ [])
-choices sTRUST = fixed ((T.TRUST, []) ∷ [])
+choices s_body = or_triple elements
+choices s_after_triple = fixed (dot ∷ elements)
+choices s_after_element = or_triple (dot ∷ elements)
+choices s_after_group = or_triple ((T.UNION, s_lBrace ∷ s_body ∷ s_after_group ∷ []) ∷ dot ∷ elements)
+choices s_slot = record { vars = some []; terms = some []; is_bound = false; marks = [] }
+choices s_var = record { vars = some []; terms = none; is_bound = false; marks = [] }
+choices s_bound = record { vars = none; terms = none; is_bound = true; marks = [] }
+choices s_primary = record { vars = some (s_relation ∷ []); terms = none; is_bound = false; marks = negatables }
+choices s_negatable = fixed negatables
+choices s_relation = fixed ((T.EQUAL, s_slot ∷ []) ∷ (T.LESS, s_var ∷ []) ∷ [])
+choices s_tail = fixed ((T.RPAREN, []) ∷ (T.AND, s_primary ∷ s_tail ∷ []) ∷ (T.OR, s_primary ∷ s_tail ∷ []) ∷ [])
+choices s_lBrace = fixed ((T.LBRACE, []) ∷ [])
+choices s_lParen = fixed ((T.LPAREN, []) ∷ [])
+choices s_rParen = fixed ((T.RPAREN, []) ∷ [])
+choices s_comma = fixed ((T.COMMA, []) ∷ [])
+choices s_aS = fixed ((T.AS, []) ∷ [])
+choices s_tRUST = fixed ((T.TRUST, []) ∷ [])
 
 abbrev pub vars : Symbol → Option (List Symbol)
 vars X = (choices X).vars
@@ -82,8 +82,8 @@ vars X = (choices X).vars
 abbrev pub terms : Symbol → Option (List Symbol)
 terms X = (choices X).terms
 
-abbrev pub isBound : Symbol → Bool
-isBound X = (choices X).isBound
+abbrev pub is_bound : Symbol → Bool
+is_bound X = (choices X).is_bound
 
 abbrev pub marks : Symbol → List Entry
 marks X = (choices X).marks
@@ -92,22 +92,22 @@ marks X = (choices X).marks
 
 -- the kinds of tokens with a number
 pub data Kind : Type 0 where
-  kVar kNum kNeg : Kind
+  k_var k_num k_neg : Kind
 
-abbrev pub tokenOf : Kind → ℕ → Token
-tokenOf kVar n = var n
-tokenOf kNum n = num n
-tokenOf kNeg n = neg n
+abbrev pub token_of : Kind → ℕ → Token
+token_of k_var n = var n
+token_of k_num n = num n
+token_of k_neg n = neg n
 
 pub data State : Type 0 where
   -- between tokens; whether a word, number or variable stands directly before
   gap : Bool → List Symbol → State
   -- inside a fixed token: the next byte of it, those behind, the token
-  inMark : ℕ → List ℕ → Token → List Symbol → State
+  in_mark : ℕ → List ℕ → Token → List Symbol → State
   -- before the first digit: the least and the greatest number
   first : ℕ → ℕ → Kind → List Symbol → State
   -- inside a number: the greatest, and the value so far
-  inNumber : ℕ → ℕ → Kind → List Symbol → State
+  in_number : ℕ → ℕ → Kind → List Symbol → State
 
 -- the byte is not taken; or it is: the tokens that end with it, and the next state
 pub data Move : Type 0 where
@@ -128,43 +128,43 @@ find b (e ∷ es) = cond (eqb b (get_or e.0 0 0)) (some e) (find b es)
 
 -- inside a fixed token, of which these bytes are left
 abbrev pub within : List ℕ → Token → List Symbol → Move
-within [] t σ = go (t ∷ []) (gap (isWordNumberOrVariable t) σ)
-within (c ∷ w) t σ = go [] (inMark c w t σ)
+within [] t σ = go (t ∷ []) (gap (is_word_number_or_variable t) σ)
+within (c ∷ w) t σ = go [] (in_mark c w t σ)
 
 -- the first byte of a fixed token: a word does not follow a word, number or variable directly
-abbrev pub onMark : Bool → List Symbol → Option Entry → Move
-onMark a σ none = stop
-onMark a σ (some e) = cond (a && isCapital (get_or e.0 0 0)) stop (within (drop 1 e.0) (mark e.0) (e.1 ++ σ))
+abbrev pub on_mark : Bool → List Symbol → Option Entry → Move
+on_mark a σ none = stop
+on_mark a σ (some e) = cond (a && is_capital (get_or e.0 0 0)) stop (within (drop 1 e.0) (mark e.0) (e.1 ++ σ))
 
-abbrev pub onVar : List Symbol → Option (List Symbol) → Move
-onVar σ none = stop
-onVar σ (some α) = go [] (first 0 15 kVar (α ++ σ))
+abbrev pub on_var : List Symbol → Option (List Symbol) → Move
+on_var σ none = stop
+on_var σ (some α) = go [] (first 0 15 k_var (α ++ σ))
 
-abbrev pub onTerm : ℕ → List Symbol → Option (List Symbol) → Move
-onTerm b σ none = stop
-onTerm b σ (some α) = cond (eqb b 48) stop (go [] (inNumber 1048575 (b - 48) kNum (α ++ σ)))
+abbrev pub on_term : ℕ → List Symbol → Option (List Symbol) → Move
+on_term b σ none = stop
+on_term b σ (some α) = cond (eqb b 48) stop (go [] (in_number 1048575 (b - 48) k_num (α ++ σ)))
 
 -- the first byte of a token, for the symbol on top
 unfoldable pub onto : Bool → List Symbol → ℕ → Move
 onto a [] b = stop
 onto a (X ∷ σ) b =
-    cond (eqb b 63) (onVar σ (vars X))
-    (cond (eqb b 45) (cond (isBound X && not a) (go [] (first 1 1000 kNeg σ)) stop)
-    (cond (digit b) (cond a stop (cond (isBound X) (go [] (inNumber 1000 (b - 48) kNum σ)) (onTerm b σ (terms X))))
-    (onMark a σ (find b (marks X)))))
+    cond (eqb b 63) (on_var σ (vars X))
+    (cond (eqb b 45) (cond (is_bound X && not a) (go [] (first 1 1000 k_neg σ)) stop)
+    (cond (digit b) (cond a stop (cond (is_bound X) (go [] (in_number 1000 (b - 48) k_num σ)) (on_term b σ (terms X))))
+    (on_mark a σ (find b (marks X)))))
 
-abbrev pub inGap : Bool → List Symbol → ℕ → Move
-inGap a σ b = cond (isSpace b) (go [] (gap false σ)) (onto a σ b)
+abbrev pub in_gap : Bool → List Symbol → ℕ → Move
+in_gap a σ b = cond (is_space b) (go [] (gap false σ)) (onto a σ b)
 
 -- a number goes on with a digit that keeps it in range, unless it is 0; else it has ended
 abbrev pub step : State → ℕ → Move
-step (gap a σ) b = inGap a σ b
-step (inMark c w t σ) b = cond (eqb b c) (within w t σ) stop
-step (first l u k σ) b = cond (digit b && leb l (b - 48)) (go [] (inNumber u (b - 48) k σ)) stop
-step (inNumber u v k σ) b =
+step (gap a σ) b = in_gap a σ b
+step (in_mark c w t σ) b = cond (eqb b c) (within w t σ) stop
+step (first l u k σ) b = cond (digit b && leb l (b - 48)) (go [] (in_number u (b - 48) k σ)) stop
+step (in_number u v k σ) b =
     cond (digit b && (leb 1 v && leb (v * 10 + (b - 48)) u))
-    (go [] (inNumber u (v * 10 + (b - 48)) k σ))
-    (prepend (tokenOf k v) (inGap true σ b))
+    (go [] (in_number u (v * 10 + (b - 48)) k σ))
+    (prepend (token_of k v) (in_gap true σ b))
 
 -- ---- the run
 
@@ -181,10 +181,10 @@ after ts (fault n) = fault n
 abbrev pub finish : ℕ → State → Outcome
 finish n (gap a []) = accepted []
 finish n (gap a (X ∷ σ)) = fault n
-finish n (inMark c w t σ) = fault n
+finish n (in_mark c w t σ) = fault n
 finish n (first l u k σ) = fault n
-finish n (inNumber u v k []) = accepted (tokenOf k v ∷ [])
-finish n (inNumber u v k (X ∷ σ)) = fault n
+finish n (in_number u v k []) = accepted (token_of k v ∷ [])
+finish n (in_number u v k (X ∷ σ)) = fault n
 
 -- bytes from place n on
 unfoldable pub run : List ℕ → ℕ → State → Outcome
@@ -192,7 +192,7 @@ run [] n st = finish n st
 run (b ∷ s) n st = elim (step st b) [ stop ↦ fault n | go ts st' ↦ after ts (run s (suc n) st') ]
 
 abbrev pub initial : State
-initial = gap false (sLBrace ∷ sBody ∷ [])
+initial = gap false (s_lBrace ∷ s_body ∷ [])
 
 -- the tokens of a text, or the place of the fault
 unfoldable pub read : List ℕ → Outcome

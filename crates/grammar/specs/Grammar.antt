@@ -69,72 +69,72 @@ mutual
   pub data Body : Bool → Type 0 where
     end : {a : Bool} → Body a
     triple : Slot → Slot → Slot → Body false → Body true
-    tripleDot : Slot → Slot → Slot → Body true → Body true
+    triple_dot : Slot → Slot → Slot → Body true → Body true
     element : {a : Bool} → Element → Body true → Body a
-    elementDot : {a : Bool} → Element → Body true → Body a
+    element_dot : {a : Bool} → Element → Body true → Body a
 
   pub data Element : Type 0 where
     groups : Body true → Unions → Element
     optional : Body true → Element
     filter : Disjunction → Element
-    trustAs : Variable → Element
+    trust_as : Variable → Element
     ensure : Thousandths → Thousandths → Element
 
   pub data Unions : Type 0 where
     none : Unions
-    andUnion : Body true → Unions → Unions
+    and_union : Body true → Unions → Unions
 
 -- ---- the tokens
 
-abbrev pub variableToken : Variable → Token
-variableToken v = var v.name
+abbrev pub variable_token : Variable → Token
+variable_token v = var v.name
 
-abbrev pub slotToken : Slot → Token
-slotToken (term t) = num t.number
-slotToken (variable v) = variableToken v
+abbrev pub slot_token : Slot → Token
+slot_token (term t) = num t.number
+slot_token (variable v) = variable_token v
 
-abbrev pub thousandthsToken : Thousandths → Token
-thousandthsToken (plus n h) = num n
-thousandthsToken (minus n l h) = neg n
-
-abbrev mutual
-  pub disjunctionTokens : Disjunction → List Token → List Token
-  disjunctionTokens (conjuncts c) rest = conjunctionTokens c rest
-  disjunctionTokens (either d c) rest = disjunctionTokens d (mark OR ∷ conjunctionTokens c rest)
-
-  pub conjunctionTokens : Conjunction → List Token → List Token
-  conjunctionTokens (single p) rest = primaryTokens p rest
-  conjunctionTokens (both c p) rest = conjunctionTokens c (mark AND ∷ primaryTokens p rest)
-
-  pub primaryTokens : Primary → List Token → List Token
-  primaryTokens (negatable n) rest = negatableTokens n rest
-  primaryTokens (equal v s) rest = variableToken v ∷ mark EQUAL ∷ slotToken s ∷ rest
-  primaryTokens (less v w) rest = variableToken v ∷ mark LESS ∷ variableToken w ∷ rest
-
-  pub negatableTokens : Negatable → List Token → List Token
-  negatableTokens (bound v) rest = mark BOUND ∷ mark LPAREN ∷ variableToken v ∷ mark RPAREN ∷ rest
-  negatableTokens (not n) rest = mark NOT ∷ negatableTokens n rest
-  negatableTokens (parens d) rest = mark LPAREN ∷ disjunctionTokens d (mark RPAREN ∷ rest)
+abbrev pub thousandths_token : Thousandths → Token
+thousandths_token (plus n h) = num n
+thousandths_token (minus n l h) = neg n
 
 abbrev mutual
-  pub bodyTokens : {a : Bool} → Body a → List Token → List Token
-  bodyTokens end rest = mark RBRACE ∷ rest
-  bodyTokens (triple x y z b) rest = slotToken x ∷ slotToken y ∷ slotToken z ∷ bodyTokens b rest
-  bodyTokens (tripleDot x y z b) rest = slotToken x ∷ slotToken y ∷ slotToken z ∷ mark DOT ∷ bodyTokens b rest
-  bodyTokens (element e b) rest = elementTokens e (bodyTokens b rest)
-  bodyTokens (elementDot e b) rest = elementTokens e (mark DOT ∷ bodyTokens b rest)
+  pub disjunction_tokens : Disjunction → List Token → List Token
+  disjunction_tokens (conjuncts c) rest = conjunction_tokens c rest
+  disjunction_tokens (either d c) rest = disjunction_tokens d (mark OR ∷ conjunction_tokens c rest)
 
-  pub elementTokens : Element → List Token → List Token
-  elementTokens (groups g us) rest = mark LBRACE ∷ bodyTokens g (unionsTokens us rest)
-  elementTokens (optional g) rest = mark OPTIONAL ∷ mark LBRACE ∷ bodyTokens g rest
-  elementTokens (filter d) rest = mark FILTER ∷ mark LPAREN ∷ disjunctionTokens d (mark RPAREN ∷ rest)
-  elementTokens (trustAs v) rest = mark TRUST ∷ mark AS ∷ variableToken v ∷ rest
-  elementTokens (ensure l u) rest =
-      mark ENSURE ∷ mark TRUST ∷ mark LPAREN ∷ thousandthsToken l ∷ mark COMMA ∷ thousandthsToken u ∷ mark RPAREN ∷ rest
+  pub conjunction_tokens : Conjunction → List Token → List Token
+  conjunction_tokens (single p) rest = primary_tokens p rest
+  conjunction_tokens (both c p) rest = conjunction_tokens c (mark AND ∷ primary_tokens p rest)
 
-  pub unionsTokens : Unions → List Token → List Token
-  unionsTokens none rest = rest
-  unionsTokens (andUnion g us) rest = mark UNION ∷ mark LBRACE ∷ bodyTokens g (unionsTokens us rest)
+  pub primary_tokens : Primary → List Token → List Token
+  primary_tokens (negatable n) rest = negatable_tokens n rest
+  primary_tokens (equal v s) rest = variable_token v ∷ mark EQUAL ∷ slot_token s ∷ rest
+  primary_tokens (less v w) rest = variable_token v ∷ mark LESS ∷ variable_token w ∷ rest
+
+  pub negatable_tokens : Negatable → List Token → List Token
+  negatable_tokens (bound v) rest = mark BOUND ∷ mark LPAREN ∷ variable_token v ∷ mark RPAREN ∷ rest
+  negatable_tokens (not n) rest = mark NOT ∷ negatable_tokens n rest
+  negatable_tokens (parens d) rest = mark LPAREN ∷ disjunction_tokens d (mark RPAREN ∷ rest)
+
+abbrev mutual
+  pub body_tokens : {a : Bool} → Body a → List Token → List Token
+  body_tokens end rest = mark RBRACE ∷ rest
+  body_tokens (triple x y z b) rest = slot_token x ∷ slot_token y ∷ slot_token z ∷ body_tokens b rest
+  body_tokens (triple_dot x y z b) rest = slot_token x ∷ slot_token y ∷ slot_token z ∷ mark DOT ∷ body_tokens b rest
+  body_tokens (element e b) rest = element_tokens e (body_tokens b rest)
+  body_tokens (element_dot e b) rest = element_tokens e (mark DOT ∷ body_tokens b rest)
+
+  pub element_tokens : Element → List Token → List Token
+  element_tokens (groups g us) rest = mark LBRACE ∷ body_tokens g (unions_tokens us rest)
+  element_tokens (optional g) rest = mark OPTIONAL ∷ mark LBRACE ∷ body_tokens g rest
+  element_tokens (filter d) rest = mark FILTER ∷ mark LPAREN ∷ disjunction_tokens d (mark RPAREN ∷ rest)
+  element_tokens (trust_as v) rest = mark TRUST ∷ mark AS ∷ variable_token v ∷ rest
+  element_tokens (ensure l u) rest =
+      mark ENSURE ∷ mark TRUST ∷ mark LPAREN ∷ thousandths_token l ∷ mark COMMA ∷ thousandths_token u ∷ mark RPAREN ∷ rest
+
+  pub unions_tokens : Unions → List Token → List Token
+  unions_tokens none rest = rest
+  unions_tokens (and_union g us) rest = mark UNION ∷ mark LBRACE ∷ body_tokens g (unions_tokens us rest)
 
 -- ---- derivations
 
@@ -143,7 +143,7 @@ abbrev pub Query : Type 0
 Query = Body true
 
 abbrev pub tokens : Query → List Token
-tokens q = mark LBRACE ∷ bodyTokens q []
+tokens q = mark LBRACE ∷ body_tokens q []
 
 -- q is a derivation of the text s
 abbrev pub Derives : Query → List ℕ → Type 0

@@ -2,13 +2,13 @@
 -- in ReadText keeps it is proved (proofs/TextCalls). Assumes nothing.
 use Rattle.std.specs.Prelude.{◌≡◌, List, ◌⊎◌, ℕ, ◌≤◌, ◌<◌, length, take}
 use Rattle.tsparql.specs.Check.{refuse, Passes}
-use Rattle.tsparql.specs.Rewrite.{Rewritten, wroteInto, wroteNothing}
+use Rattle.tsparql.specs.Rewrite.{Rewritten, wrote_into, wrote_nothing}
 use Rattle.grammar.specs.Grammar.{Query, Derives, Underivable, Viable}
-use Rattle.grammar.specs.Meaning.{meaningBytes}
+use Rattle.grammar.specs.Meaning.{meaning_bytes}
 
 -- the most bytes of a text
-abbrev pub textLimit : ℕ
-textLimit = 4096
+abbrev pub text_limit : ℕ
+text_limit = 4096
 
 -- the first p bytes of s begin a text that has a derivation, and no more of them do
 pub record LongestStart (s : List ℕ) (p : ℕ) : Type 0 where
@@ -19,17 +19,17 @@ pub record LongestStart (s : List ℕ) (p : ℕ) : Type 0 where
 -- the answer a for the text s and the output out
 pub record Promise (s out : List ℕ) (a : Rewritten) : Type 0 where
   -- 11, a text over 4,096 bytes
-  pub long : textLimit < length s → a ≡ wroteNothing (refuse 11 textLimit) out
+  pub long : text_limit < length s → a ≡ wrote_nothing (refuse 11 text_limit) out
   -- 11, no derivation
   pub underived :
-      length s ≤ textLimit → Underivable s → (p : ℕ) × LongestStart s p × (a ≡ wroteNothing (refuse 11 p) out)
+      length s ≤ text_limit → Underivable s → (p : ℕ) × LongestStart s p × (a ≡ wrote_nothing (refuse 11 p) out)
   -- 12, an output too short for the bytes of the meaning
   pub short :
-      length s ≤ textLimit → (q : Query) → Derives q s → length out < length (meaningBytes q)
-      → a ≡ wroteNothing (refuse 12 (length (meaningBytes q))) out
+      length s ≤ text_limit → (q : Query) → Derives q s → length out < length (meaning_bytes q)
+      → a ≡ wrote_nothing (refuse 12 (length (meaning_bytes q))) out
   -- else these bytes at the front of the output
   pub derived :
-      length s ≤ textLimit → (q : Query) → Derives q s → length (meaningBytes q) ≤ length out → a ≡ wroteInto (meaningBytes q) out
+      length s ≤ text_limit → (q : Query) → Derives q s → length (meaning_bytes q) ≤ length out → a ≡ wrote_into (meaning_bytes q) out
   -- no text without a derivation passes
   pub accepted : Passes a.refusal → (q : Query) × Derives q s
   -- every text has a derivation or has none

@@ -9,7 +9,7 @@
 use Rattle.std.specs.Prelude.{Bool, true, false, List, [], ◌∷◌, ℕ}
 use Rattle.std.proofs.Math.Option.{Option, none, some}
 use Rattle.grammar.specs.Tokens.{Token, mark, LBRACE, RBRACE, DOT, OPTIONAL, UNION, Written}
-use Rattle.grammar.specs.Grammar.{Variable, Slot, slotToken, Thousandths, Disjunction, elementTokens}
+use Rattle.grammar.specs.Grammar.{Variable, Slot, slot_token, Thousandths, Disjunction, element_tokens}
 use Rattle.grammar.specs.Grammar as G
 
 -- [21]: a triple, a triple and a dot, a triple and a dot and a block
@@ -21,7 +21,7 @@ pub data TriplesBlock : Type 0 where
 -- Filter, and what else may stand where one may
 pub data Filter : Type 0 where
   filter : Disjunction → Filter
-  trustAs : Variable → Filter
+  trust_as : Variable → Filter
   ensure : Thousandths → Thousandths → Filter
 
 mutual
@@ -37,8 +37,8 @@ mutual
   -- GraphPatternNotTriples | Filter, with [22], [23] and [25] put in
   pub data Part : Type 0 where
     optional : GroupGraphPattern → Part
-    groupOrUnion : GroupGraphPattern → UnionStar → Part
-    aFilter : Filter → Part
+    group_or_union : GroupGraphPattern → UnionStar → Part
+    a_filter : Filter → Part
 
   -- the star of [25]
   pub data UnionStar : Type 0 where
@@ -47,42 +47,42 @@ mutual
 
 -- ---- the tokens
 
-abbrev pub blockTokens : TriplesBlock → List Token → List Token
-blockTokens (only x y z) rest = slotToken x ∷ slotToken y ∷ slotToken z ∷ rest
-blockTokens (dotted x y z) rest = slotToken x ∷ slotToken y ∷ slotToken z ∷ mark DOT ∷ rest
-blockTokens (more x y z b) rest = slotToken x ∷ slotToken y ∷ slotToken z ∷ mark DOT ∷ blockTokens b rest
+abbrev pub block_tokens : TriplesBlock → List Token → List Token
+block_tokens (only x y z) rest = slot_token x ∷ slot_token y ∷ slot_token z ∷ rest
+block_tokens (dotted x y z) rest = slot_token x ∷ slot_token y ∷ slot_token z ∷ mark DOT ∷ rest
+block_tokens (more x y z b) rest = slot_token x ∷ slot_token y ∷ slot_token z ∷ mark DOT ∷ block_tokens b rest
 
-abbrev pub optionalBlock : Option TriplesBlock → List Token → List Token
-optionalBlock none rest = rest
-optionalBlock (some b) rest = blockTokens b rest
+abbrev pub optional_block : Option TriplesBlock → List Token → List Token
+optional_block none rest = rest
+optional_block (some b) rest = block_tokens b rest
 
-abbrev pub optionalDot : Bool → List Token → List Token
-optionalDot true rest = mark DOT ∷ rest
-optionalDot false rest = rest
+abbrev pub optional_dot : Bool → List Token → List Token
+optional_dot true rest = mark DOT ∷ rest
+optional_dot false rest = rest
 
 -- the tokens of a filter are those of Grammar
-abbrev pub filterTokens : Filter → List Token → List Token
-filterTokens (filter d) rest = elementTokens (G.filter d) rest
-filterTokens (trustAs v) rest = elementTokens (G.trustAs v) rest
-filterTokens (ensure l u) rest = elementTokens (G.ensure l u) rest
+abbrev pub filter_tokens : Filter → List Token → List Token
+filter_tokens (filter d) rest = element_tokens (G.filter d) rest
+filter_tokens (trust_as v) rest = element_tokens (G.trust_as v) rest
+filter_tokens (ensure l u) rest = element_tokens (G.ensure l u) rest
 
 abbrev mutual
-  pub groupTokens : GroupGraphPattern → List Token → List Token
-  groupTokens (group b s) rest = mark LBRACE ∷ optionalBlock b (starTokens s rest)
+  pub group_tokens : GroupGraphPattern → List Token → List Token
+  group_tokens (group b s) rest = mark LBRACE ∷ optional_block b (star_tokens s rest)
 
-  pub starTokens : Star → List Token → List Token
-  starTokens closing rest = mark RBRACE ∷ rest
-  starTokens (next p d b s) rest = partTokens p (optionalDot d (optionalBlock b (starTokens s rest)))
+  pub star_tokens : Star → List Token → List Token
+  star_tokens closing rest = mark RBRACE ∷ rest
+  star_tokens (next p d b s) rest = part_tokens p (optional_dot d (optional_block b (star_tokens s rest)))
 
-  pub partTokens : Part → List Token → List Token
-  partTokens (optional g) rest = mark OPTIONAL ∷ groupTokens g rest
-  partTokens (groupOrUnion g us) rest = groupTokens g (unionTokens us rest)
-  partTokens (aFilter f) rest = filterTokens f rest
+  pub part_tokens : Part → List Token → List Token
+  part_tokens (optional g) rest = mark OPTIONAL ∷ group_tokens g rest
+  part_tokens (group_or_union g us) rest = group_tokens g (union_tokens us rest)
+  part_tokens (a_filter f) rest = filter_tokens f rest
 
-  pub unionTokens : UnionStar → List Token → List Token
-  unionTokens single rest = rest
-  unionTokens (union g us) rest = mark UNION ∷ groupTokens g (unionTokens us rest)
+  pub union_tokens : UnionStar → List Token → List Token
+  union_tokens single rest = rest
+  union_tokens (union g us) rest = mark UNION ∷ group_tokens g (union_tokens us rest)
 
 -- the text s is derived by W3C's rules
 abbrev pub DerivesSparql : GroupGraphPattern → List ℕ → Type 0
-DerivesSparql g s = Written false (groupTokens g []) s
+DerivesSparql g s = Written false (group_tokens g []) s

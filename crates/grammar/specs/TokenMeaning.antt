@@ -4,36 +4,36 @@
 use Rattle.std.specs.Prelude.{List, [], ◌∷◌, ◌++◌, map, ℕ, ◌+◌, ◌-◌, get_or}
 use Rattle.std.proofs.Math.Option
 use Rattle.std.proofs.Math.Option.{Option, none, some}
-use Rattle.tsparql.specs.Query.{aTerm, aVariable, Condition, Node, union}
+use Rattle.tsparql.specs.Query.{a_term, a_variable, Condition, Node, union}
 use Rattle.tsparql.specs.Query as Q
 use Rattle.grammar.specs.Tokens.{Token, mark, var, num, neg}
 use Rattle.grammar.specs.Tokens as T
-use Rattle.grammar.specs.Meaning.{Item, aTriple, aGroup, aFilter, aProjection, aBound, groupNode, optionalItem}
-use Rattle.grammar.specs.Automaton.{Symbol, sBody, sAfterTriple, sAfterElement, sAfterGroup, sSlot, sVar, sBound}
-use Rattle.grammar.specs.Automaton.{sPrimary, sNegatable, sRelation, sTail, sLBrace, sLParen, sRParen, sComma, sAS, sTRUST}
+use Rattle.grammar.specs.Meaning.{Item, a_triple, a_group, a_filter, a_projection, a_bound, group_node, optional_item}
+use Rattle.grammar.specs.Automaton.{Symbol, s_body, s_after_triple, s_after_element, s_after_group, s_slot, s_var, s_bound}
+use Rattle.grammar.specs.Automaton.{s_primary, s_negatable, s_relation, s_tail, s_lBrace, s_lParen, s_rParen, s_comma, s_aS, s_tRUST}
 use Rattle.grammar.specs.Automaton.{find, accepted, fault, read}
 
 -- ---- values
 
 -- after a group: the items, for the node so far; of a tail: the condition, for what or joins before the last conjunction, and for that
 abbrev pub Value : Symbol → Type 0
-Value sBody = List Item
-Value sAfterTriple = List Item
-Value sAfterElement = List Item
-Value sAfterGroup = Node → List Item
-Value sSlot = Q.Slot
-Value sVar = ℕ
-Value sBound = ℕ
-Value sPrimary = Condition
-Value sNegatable = Condition
-Value sRelation = ℕ → Condition
-Value sTail = (Condition → Condition) → Condition → Condition
-Value sLBrace = Unit {0}
-Value sLParen = Unit {0}
-Value sRParen = Unit {0}
-Value sComma = Unit {0}
-Value sAS = Unit {0}
-Value sTRUST = Unit {0}
+Value s_body = List Item
+Value s_after_triple = List Item
+Value s_after_element = List Item
+Value s_after_group = Node → List Item
+Value s_slot = Q.Slot
+Value s_var = ℕ
+Value s_bound = ℕ
+Value s_primary = Condition
+Value s_negatable = Condition
+Value s_relation = ℕ → Condition
+Value s_tail = (Condition → Condition) → Condition → Condition
+Value s_lBrace = Unit {0}
+Value s_lParen = Unit {0}
+Value s_rParen = Unit {0}
+Value s_comma = Unit {0}
+Value s_aS = Unit {0}
+Value s_tRUST = Unit {0}
 
 -- a value for each symbol, in pairs: v.0 is the first, v.1.0 the second
 abbrev pub Values : List Symbol → Type 0
@@ -69,93 +69,93 @@ only w = fixed ((w, ([], λ v. tt)) ∷ [])
 
 -- the number of a slot
 abbrev pub number : Q.Slot → ℕ
-number (aTerm a) = a
-number (aVariable w) = w
+number (a_term a) = a
+number (a_variable w) = w
 
 abbrev pub related : ℕ → Q.Slot → Condition
-related x (aTerm a) = Q.isTerm x a
-related x (aVariable w) = Q.same x w
+related x (a_term a) = Q.is_term x a
+related x (a_variable w) = Q.same x w
 
 -- no or before
 abbrev pub alone : Condition → Condition
 alone c = c
 
-abbrev pub elementActions : List (List ℕ × Action (List Item))
-elementActions =
+abbrev pub element_actions : List (List ℕ × Action (List Item))
+element_actions =
     (T.RBRACE, ([], λ v. [])) ∷
-    (T.LBRACE, (sBody ∷ sAfterGroup ∷ [], λ v. v.1.0 (groupNode v.0))) ∷
-    (T.OPTIONAL, (sLBrace ∷ sBody ∷ sAfterElement ∷ [], λ v. optionalItem v.1.0 ∷ v.1.1.0)) ∷
-    (T.FILTER, (sLParen ∷ sPrimary ∷ sTail ∷ sAfterElement ∷ [], λ v. aFilter (v.1.1.0 alone v.1.0) ∷ v.1.1.1.0)) ∷
-    (T.TRUST, (sAS ∷ sVar ∷ sAfterElement ∷ [], λ v. aProjection v.1.0 ∷ v.1.1.0)) ∷ (
+    (T.LBRACE, (s_body ∷ s_after_group ∷ [], λ v. v.1.0 (group_node v.0))) ∷
+    (T.OPTIONAL, (s_lBrace ∷ s_body ∷ s_after_element ∷ [], λ v. optional_item v.1.0 ∷ v.1.1.0)) ∷
+    (T.FILTER, (s_lParen ∷ s_primary ∷ s_tail ∷ s_after_element ∷ [], λ v. a_filter (v.1.1.0 alone v.1.0) ∷ v.1.1.1.0)) ∷
+    (T.TRUST, (s_aS ∷ s_var ∷ s_after_element ∷ [], λ v. a_projection v.1.0 ∷ v.1.1.0)) ∷ (
       T.ENSURE,
       (
-        sTRUST ∷ sLParen ∷ sBound ∷ sComma ∷ sBound ∷ sRParen ∷ sAfterElement ∷ [],
-        λ v. aBound v.1.1.0 v.1.1.1.1.0 ∷ v.1.1.1.1.1.1.0,
+        s_tRUST ∷ s_lParen ∷ s_bound ∷ s_comma ∷ s_bound ∷ s_rParen ∷ s_after_element ∷ [],
+        λ v. a_bound v.1.1.0 v.1.1.1.1.0 ∷ v.1.1.1.1.1.1.0,
       ),
     ) ∷ []
 
-abbrev pub dotAction : List ℕ × Action (List Item)
-dotAction = (T.DOT, (sBody ∷ [], λ v. v.0))
+abbrev pub dot_action : List ℕ × Action (List Item)
+dot_action = (T.DOT, (s_body ∷ [], λ v. v.0))
 
 -- a triple, by its first slot
-abbrev pub tripleAction : Q.Slot → Action (List Item)
-tripleAction x = (
-  sSlot ∷ sSlot ∷ sAfterTriple ∷ [],
-  λ v. aTriple (record { subject = x; predicate = v.0; object = v.1.0 }) ∷ v.1.1.0,
+abbrev pub triple_action : Q.Slot → Action (List Item)
+triple_action x = (
+  s_slot ∷ s_slot ∷ s_after_triple ∷ [],
+  λ v. a_triple (record { subject = x; predicate = v.0; object = v.1.0 }) ∷ v.1.1.0,
 )
 
-abbrev pub orTriple : List (List ℕ × Action (List Item)) → Actions (List Item)
-orTriple ms = record { slot = λ x. some (tripleAction x); minus = never; marks = ms }
+abbrev pub or_triple : List (List ℕ × Action (List Item)) → Actions (List Item)
+or_triple ms = record { slot = λ x. some (triple_action x); minus = never; marks = ms }
 
 -- after a group no UNION follows
 abbrev pub closing : Action (List Item) → Action (Node → List Item)
-closing a = (a.0, λ v n. aGroup n ∷ a.1 v)
+closing a = (a.0, λ v n. a_group n ∷ a.1 v)
 
-abbrev pub unionAction : List ℕ × Action (Node → List Item)
-unionAction = (T.UNION, (sLBrace ∷ sBody ∷ sAfterGroup ∷ [], λ v n. v.1.1.0 (union n (groupNode v.1.0))))
+abbrev pub union_action : List ℕ × Action (Node → List Item)
+union_action = (T.UNION, (s_lBrace ∷ s_body ∷ s_after_group ∷ [], λ v n. v.1.1.0 (union n (group_node v.1.0))))
 
-abbrev pub negatableActions : List (List ℕ × Action Condition)
-negatableActions =
-    (T.BOUND, (sLParen ∷ sVar ∷ sRParen ∷ [], λ v. Q.bound v.1.0)) ∷
-    (T.NOT, (sNegatable ∷ [], λ v. Q.negation v.0)) ∷
-    (T.LPAREN, (sPrimary ∷ sTail ∷ [], λ v. v.1.0 alone v.0)) ∷ []
+abbrev pub negatable_actions : List (List ℕ × Action Condition)
+negatable_actions =
+    (T.BOUND, (s_lParen ∷ s_var ∷ s_rParen ∷ [], λ v. Q.bound v.1.0)) ∷
+    (T.NOT, (s_negatable ∷ [], λ v. Q.negation v.0)) ∷
+    (T.LPAREN, (s_primary ∷ s_tail ∷ [], λ v. v.1.0 alone v.0)) ∷ []
 
 abbrev pub actions : (X : Symbol) → Actions (Value X)
-actions sBody = orTriple elementActions
-actions sAfterTriple = fixed (dotAction ∷ elementActions)
-actions sAfterElement = orTriple (dotAction ∷ elementActions)
-actions sAfterGroup =
+actions s_body = or_triple element_actions
+actions s_after_triple = fixed (dot_action ∷ element_actions)
+actions s_after_element = or_triple (dot_action ∷ element_actions)
+actions s_after_group =
     record {
-      slot = λ x. some (closing (tripleAction x));
+      slot = λ x. some (closing (triple_action x));
       minus = never;
-      marks = unionAction ∷ map (λ m. (m.0, closing m.1)) (dotAction ∷ elementActions);
+      marks = union_action ∷ map (λ m. (m.0, closing m.1)) (dot_action ∷ element_actions);
     }
-actions sSlot = record { slot = λ x. some ([], λ v. x); minus = never; marks = [] }
-actions sVar = record { slot = λ x. some ([], λ v. number x); minus = never; marks = [] }
-actions sBound = record { slot = λ x. some ([], λ v. 1000 + number x); minus = λ n. some ([], λ v. 1000 - n); marks = [] }
-actions sPrimary = record { slot = λ x. some (sRelation ∷ [], λ v. v.0 (number x)); minus = never; marks = negatableActions }
-actions sNegatable = fixed negatableActions
-actions sRelation =
-    fixed ((T.EQUAL, (sSlot ∷ [], λ v x. related x v.0)) ∷ (T.LESS, (sVar ∷ [], λ v x. Q.less x v.0)) ∷ [])
-actions sTail =
+actions s_slot = record { slot = λ x. some ([], λ v. x); minus = never; marks = [] }
+actions s_var = record { slot = λ x. some ([], λ v. number x); minus = never; marks = [] }
+actions s_bound = record { slot = λ x. some ([], λ v. 1000 + number x); minus = λ n. some ([], λ v. 1000 - n); marks = [] }
+actions s_primary = record { slot = λ x. some (s_relation ∷ [], λ v. v.0 (number x)); minus = never; marks = negatable_actions }
+actions s_negatable = fixed negatable_actions
+actions s_relation =
+    fixed ((T.EQUAL, (s_slot ∷ [], λ v x. related x v.0)) ∷ (T.LESS, (s_var ∷ [], λ v x. Q.less x v.0)) ∷ [])
+actions s_tail =
     fixed
     ((T.RPAREN, ([], λ v f c. f c)) ∷
-    (T.AND, (sPrimary ∷ sTail ∷ [], λ v f c. v.1.0 f (Q.conjunction c v.0))) ∷
-    (T.OR, (sPrimary ∷ sTail ∷ [], λ v f c. v.1.0 (Q.disjunction (f c)) v.0)) ∷ [])
-actions sLBrace = only T.LBRACE
-actions sLParen = only T.LPAREN
-actions sRParen = only T.RPAREN
-actions sComma = only T.COMMA
-actions sAS = only T.AS
-actions sTRUST = only T.TRUST
+    (T.AND, (s_primary ∷ s_tail ∷ [], λ v f c. v.1.0 f (Q.conjunction c v.0))) ∷
+    (T.OR, (s_primary ∷ s_tail ∷ [], λ v f c. v.1.0 (Q.disjunction (f c)) v.0)) ∷ [])
+actions s_lBrace = only T.LBRACE
+actions s_lParen = only T.LPAREN
+actions s_rParen = only T.RPAREN
+actions s_comma = only T.COMMA
+actions s_aS = only T.AS
+actions s_tRUST = only T.TRUST
 
 -- ---- the meaning
 
 -- what a token that comes for a symbol does, fixed ones by their first bytes
 abbrev pub act : (X : Symbol) → Token → Option (Action (Value X))
 act X (mark w) = Option.map (λ m. m.1) (find (get_or w 0 0) (actions X).marks)
-act X (var n) = (actions X).slot (aVariable n)
-act X (num n) = (actions X).slot (aTerm n)
+act X (var n) = (actions X).slot (a_variable n)
+act X (num n) = (actions X).slot (a_term n)
 act X (neg n) = (actions X).minus n
 
 abbrev pub apply : {A : Type 0} (σ : List Symbol) (a : Action A) → Values (a.0 ++ σ) → A × Values σ
@@ -169,8 +169,8 @@ semantics (t ∷ ts) [] = none
 semantics (t ∷ ts) (X ∷ σ) = elim (act X t) [ none ↦ none | some a ↦ Option.map (apply σ a) (semantics ts (a.0 ++ σ)) ]
 
 unfoldable pub node_of : List Token → Option Node
-node_of ts = Option.map (λ v. groupNode v.1.0) (semantics ts (sLBrace ∷ sBody ∷ []))
+node_of ts = Option.map (λ v. group_node v.1.0) (semantics ts (s_lBrace ∷ s_body ∷ []))
 
 -- the node of a text, or none
-unfoldable pub textNode : List ℕ → Option Node
-textNode s = elim (read s) [ accepted ts ↦ node_of ts | fault n ↦ none ]
+unfoldable pub text_node : List ℕ → Option Node
+text_node s = elim (read s) [ accepted ts ↦ node_of ts | fault n ↦ none ]

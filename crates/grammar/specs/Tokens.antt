@@ -76,34 +76,34 @@ spelling (num n) = decimal n
 spelling (neg n) = ascii "-" ++ decimal n
 
 -- A to Z
-abbrev pub isCapital : ℕ → Bool
-isCapital b = leb 65 b && leb b 90
+abbrev pub is_capital : ℕ → Bool
+is_capital b = leb 65 b && leb b 90
 
 -- a word or a number: keywords begin with a capital, signs do not
-abbrev pub isWordOrNumber : Token → Bool
-isWordOrNumber (mark w) = isCapital (get_or w 0 0)
-isWordOrNumber (var n) = false
-isWordOrNumber (num n) = true
-isWordOrNumber (neg n) = true
+abbrev pub is_word_or_number : Token → Bool
+is_word_or_number (mark w) = is_capital (get_or w 0 0)
+is_word_or_number (var n) = false
+is_word_or_number (num n) = true
+is_word_or_number (neg n) = true
 
 -- the same, or a variable
-abbrev pub isWordNumberOrVariable : Token → Bool
-isWordNumberOrVariable (mark w) = isCapital (get_or w 0 0)
-isWordNumberOrVariable (var n) = true
-isWordNumberOrVariable (num n) = true
-isWordNumberOrVariable (neg n) = true
+abbrev pub is_word_number_or_variable : Token → Bool
+is_word_number_or_variable (mark w) = is_capital (get_or w 0 0)
+is_word_number_or_variable (var n) = true
+is_word_number_or_variable (num n) = true
+is_word_number_or_variable (neg n) = true
 
 -- ---- white space
 
 -- a space or a line feed
-abbrev pub isSpace : ℕ → Bool
-isSpace b = eqb b 32 || eqb b 10
+abbrev pub is_space : ℕ → Bool
+is_space b = eqb b 32 || eqb b 10
 
 -- Written a ts s: the text s writes the tokens ts. White space may stand around them, and must between a word, number or variable and a
 -- word or number; a says that a word, number or variable ends directly before s.
 pub data Written : Bool → List Token → List ℕ → Type 0 where
   done : {a : Bool} → Written a [] []
-  space : {a : Bool} {ts : List Token} {s : List ℕ} (b : ℕ) → isSpace b ≡ true → Written false ts s → Written a ts (b ∷ s)
+  space : {a : Bool} {ts : List Token} {s : List ℕ} (b : ℕ) → is_space b ≡ true → Written false ts s → Written a ts (b ∷ s)
   token :
-      {a : Bool} {ts : List Token} {s : List ℕ} (t : Token) (rest : List ℕ) → (a && isWordOrNumber t) ≡ false → s ≡ spelling t ++ rest
-      → Written (isWordNumberOrVariable t) ts rest → Written a (t ∷ ts) s
+      {a : Bool} {ts : List Token} {s : List ℕ} (t : Token) (rest : List ℕ) → (a && is_word_or_number t) ≡ false → s ≡ spelling t ++ rest
+      → Written (is_word_number_or_variable t) ts rest → Written a (t ∷ ts) s

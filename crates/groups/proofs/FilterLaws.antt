@@ -8,46 +8,46 @@ use native.Mathlib.Omega.{arith}
 use lib.ListN.{length, drop, get_or, length-append}
 use Rattle.tsparql.specs.Query as Q
 use Rattle.tsparql.specs.Query.{Condition}
-use Rattle.tsparql.specs.Writing.{conditionBytes}
+use Rattle.tsparql.specs.Writing.{condition_bytes}
 use Rattle.grammar.specs.Grammar as Gr
-use Rattle.grammar.specs.Meaning.{Item, aTriple, aGroup, anOptional, aFilter, aProjection, aBound, filters, conjoined, disjunctionOf}
+use Rattle.grammar.specs.Meaning.{Item, a_triple, a_group, an_optional, a_filter, a_projection, a_bound, filters, conjoined, disjunction_of}
 use Rattle.blocks.specs.Blocks.{Holds, Puts}
 use Rattle.words.proofs.WordLaws.{words-on}
 use Rattle.clauses.specs.Clauses.{Conditions}
 use Rattle.clauses.specs.declared.Block.{Block}
-use Rattle.groups.specs.Passes.{conjoinFilters, someBytes}
-use Rattle.groups.proofs.Fronts.{kFilter, View, atFilter, view-at}
-use Rattle.groups.proofs.Passing.{Made, Turn, itemWord}
+use Rattle.groups.specs.Passes.{conjoin_filters, some_bytes}
+use Rattle.groups.proofs.Fronts.{k_filter, View, at_filter, view-at}
+use Rattle.groups.proofs.Passing.{Made, Turn, item_word}
 
-pub filters-nil : (o : Option Condition) → conjoinFilters o [] ≡ o
+pub filters-nil : (o : Option Condition) → conjoin_filters o [] ≡ o
 unfolding filters conjoined
 filters-nil none = refl
 filters-nil (some c) = refl
 
 -- it leaves all other items alone
 pub filters-over :
-    (o : Option Condition) (x : Item) (is : List Item) → (itemWord x ≡ 70 → ⊥) → conjoinFilters o is ≡ conjoinFilters o (x ∷ is)
+    (o : Option Condition) (x : Item) (is : List Item) → (item_word x ≡ 70 → ⊥) → conjoin_filters o is ≡ conjoin_filters o (x ∷ is)
 unfolding filters
-filters-over o (aTriple p) is m = refl
-filters-over o (aGroup n) is m = refl
-filters-over o (anOptional c n) is m = refl
-filters-over o (aFilter c) is m = absurd (m refl)
-filters-over o (aProjection v) is m = refl
-filters-over o (aBound l u) is m = refl
+filters-over o (a_triple p) is m = refl
+filters-over o (a_group n) is m = refl
+filters-over o (an_optional c n) is m = refl
+filters-over o (a_filter c) is m = absurd (m refl)
+filters-over o (a_projection v) is m = refl
+filters-over o (a_bound l u) is m = refl
 
 -- a pass makes nothing shorter
-conjoined-least : (cs : List Condition) (c : Condition) → length (conditionBytes c) ≤ length (conditionBytes (conjoined c cs))
-unfolding conjoined conditionBytes
+conjoined-least : (cs : List Condition) (c : Condition) → length (condition_bytes c) ≤ length (condition_bytes (conjoined c cs))
+unfolding conjoined condition_bytes
 conjoined-least [] c = omega arith
 conjoined-least (d ∷ cs) c =
     let h = conjoined-least cs (Q.conjunction c d) in
-    omega (arith, length-append (conditionBytes c) (conditionBytes d))
+    omega (arith, length-append (condition_bytes c) (condition_bytes d))
 
-pub condition-large : (c : Condition) → 1 ≤ length (conditionBytes c)
-unfolding conditionBytes
+pub condition-large : (c : Condition) → 1 ≤ length (condition_bytes c)
+unfolding condition_bytes
 condition-large (Q.bound v) = omega arith
 condition-large (Q.same v w) = omega arith
-condition-large (Q.isTerm v a) = omega arith
+condition-large (Q.is_term v a) = omega arith
 condition-large (Q.less v w) = omega arith
 condition-large (Q.negation c) = omega arith
 condition-large (Q.conjunction c d) = omega arith
@@ -58,53 +58,53 @@ condition-large Q.always = omega arith
 
 pub filter-first :
     (t : List ℕ) (from : ℕ) (out out' : List ℕ) (i n : ℕ) (b : Block) → get_or t i 0 ≡ 70 → n ≤ from → Conditions t (i + 2) n out out' b
-    → Turn (Option Condition) conjoinFilters someBytes t from out out' i b.next n b.len
+    → Turn (Option Condition) conjoin_filters some_bytes t from out out' i b.next n b.len
 unfolding filters
 filter-first t from out out' i n b c o writes is rest pre (some x) walks start held room =
-    let size = held.size in absurd (omega (arith, length-append pre (conditionBytes x), condition-large x))
+    let size = held.size in absurd (omega (arith, length-append pre (condition_bytes x), condition-large x))
 filter-first t from out out' i n b c o writes is rest pre none walks start held room = go (view-at t i 70 is rest c walks)
   where
-    go : View (drop i t) is rest kFilter
-        → Made (Option Condition) conjoinFilters someBytes t rest pre (conjoinFilters none is) out' b.next b.len
-    go (atFilter d ts later e q f) =
+    go : View (drop i t) is rest k_filter
+        → Made (Option Condition) conjoin_filters some_bytes t rest pre (conjoin_filters none is) out' b.next b.len
+    go (at_filter d ts later e q f) =
         let size = held.size in
-        let least = conjoined-least (filters later) (disjunctionOf d) in
-        let fits = ap (λ (js : List Item). length (someBytes (conjoinFilters none js))) q in
+        let least = conjoined-least (filters later) (disjunction_of d) in
+        let fits = ap (λ (js : List Item). length (some_bytes (conjoin_filters none js))) q in
         let w = writes d ts (pre ++ []) (words-on t _ i 2 e) held (omega (arith, length-append pre [])) in
         record {
           later = later;
-          now = some (disjunctionOf d);
+          now = some (disjunction_of d);
           walks = record { unions = Gr.none; tail = ts; written = w.0; follows = f };
-          makes = sym (ap (λ (js : List Item). conjoinFilters none js) q);
-          holds = subst (λ (x : List ℕ). Holds out' (x ++ conditionBytes (disjunctionOf d)) b.len) (append-nil pre) w.1;
+          makes = sym (ap (λ (js : List Item). conjoin_filters none js) q);
+          holds = subst (λ (x : List ℕ). Holds out' (x ++ condition_bytes (disjunction_of d)) b.len) (append-nil pre) w.1;
         }
 
 pub filter_more :
     (t : List ℕ) (from : ℕ) (out out₁ out' : List ℕ) (i n n' : ℕ) (b : Block) → get_or t i 0 ≡ 70 → from < n
     → Conditions t (i + 2) n out out₁ b → length out₁ ≡ length out → Puts out₁ out' from b.len 80 n'
-    → Turn (Option Condition) conjoinFilters someBytes t from out out' i b.next n n'
-unfolding filters conjoined conditionBytes
+    → Turn (Option Condition) conjoin_filters some_bytes t from out out' i b.next n n'
+unfolding filters conjoined condition_bytes
 filter_more t from out out₁ out' i n n' b c o writes same put is rest pre none walks start held room =
     let size = held.size in absurd (omega (arith, length-append pre []))
 filter_more t from out out₁ out' i n n' b c o writes same put is rest pre (some x) walks start held room =
     go (view-at t i 70 is rest c walks)
   where
-    go : View (drop i t) is rest kFilter
-        → Made (Option Condition) conjoinFilters someBytes t rest pre (conjoinFilters (some x) is) out' b.next n'
-    go (atFilter d ts later e q f) =
+    go : View (drop i t) is rest k_filter
+        → Made (Option Condition) conjoin_filters some_bytes t rest pre (conjoin_filters (some x) is) out' b.next n'
+    go (at_filter d ts later e q f) =
         let size = held.size in
-        let D = conditionBytes (disjunctionOf d) in
-        let X = conditionBytes x in
-        let least = conjoined-least (filters later) (Q.conjunction x (disjunctionOf d)) in
-        let fits = ap (λ (js : List Item). length (someBytes (conjoinFilters (some x) js))) q in
+        let D = condition_bytes (disjunction_of d) in
+        let X = condition_bytes x in
+        let least = conjoined-least (filters later) (Q.conjunction x (disjunction_of d)) in
+        let fits = ap (λ (js : List Item). length (some_bytes (conjoin_filters (some x) js))) q in
         let w = writes d ts (pre ++ X) (words-on t _ i 2 e) held (omega (arith, length-append pre X, length-append X D)) in
         let size' = w.1.size in
         let front = put pre (X ++ D) (sym start) (subst (λ (l : List ℕ). Holds out₁ l b.len) (append_assoc pre X D) w.1)
         (omega (arith, length-append pre X, length-append X D, length-append (pre ++ X) D)) in
         record {
           later = later;
-          now = some (Q.conjunction x (disjunctionOf d));
+          now = some (Q.conjunction x (disjunction_of d));
           walks = record { unions = Gr.none; tail = ts; written = w.0; follows = f };
-          makes = sym (ap (λ (js : List Item). conjoinFilters (some x) js) q);
+          makes = sym (ap (λ (js : List Item). conjoin_filters (some x) js) q);
           holds = front;
         }

@@ -8,12 +8,12 @@ use native.Mathlib.Omega.{arith}
 use lib.ListN.{length, drop, get_or}
 use Rattle.grammar.specs.Tokens.{Token}
 use Rattle.grammar.specs.Grammar.{Body}
-use Rattle.grammar.specs.Meaning.{Item, aTriple, aGroup, anOptional, aFilter, aProjection, aBound, items}
+use Rattle.grammar.specs.Meaning.{Item, a_triple, a_group, an_optional, a_filter, a_projection, a_bound, items}
 use Rattle.blocks.specs.Blocks.{Holds}
 use Rattle.words.proofs.WordLaws.{word_first}
 use Rattle.groups.specs.Passes.{BodyAt, Makes}
-use Rattle.groups.proofs.Fronts.{Walks, Kind, kEnd, View, left, nextItem}
-use Rattle.groups.proofs.Fronts.{atEnd, atDot, atUnion, atTriple, atGroup, atOptional, atFilter, atProjection, atBound}
+use Rattle.groups.proofs.Fronts.{Walks, Kind, k_end, View, left, next_item}
+use Rattle.groups.proofs.Fronts.{at_end, at_dot, at_union, at_triple, at_group, at_optional, at_filter, at_projection, at_bound}
 use Rattle.groups.proofs.Fronts.{items-walks, body-items, first_word, view-at, view-inside, view-over}
 
 -- y has become `now` by the items before the place i, and will be z
@@ -65,9 +65,9 @@ module _ (S : Type 0) (f : S → List Item → S) (bytes : S → List ℕ) (t : 
       let d = m.stands b rest pre x w e h room in
       go d (view-at t i 125 d.later rest c d.walks)
     where
-      go : (d : Made S f bytes t rest pre (f x (items b)) out i n) → View (drop i t) d.later rest kEnd
+      go : (d : Made S f bytes t rest pre (f x (items b)) out i n) → View (drop i t) d.later rest k_end
           → Holds out (pre ++ bytes (f x (items b))) n
-      go d (atEnd p q) =
+      go d (at_end p q) =
           let done : d.now ≡ f x (items b) = sym (nil d.now) ∙ ap (λ (l : List Item). f d.now l) (sym q) ∙ d.makes in
           subst (λ (y : S). Holds out (pre ++ bytes y) n) done d.holds
 
@@ -88,7 +88,7 @@ module _ (S : Type 0) (f : S → List Item → S) (bytes : S → List ℕ) (t : 
       }
 
   pub making-skip :
-      (out : List ℕ) (i j n : ℕ) → (get_or t i 0 ≡ 125 → ⊥) → drop j t ≡ nextItem (drop i t)
+      (out : List ℕ) (i j n : ℕ) → (get_or t i 0 ≡ 125 → ⊥) → drop j t ≡ next_item (drop i t)
       → ((y : S) (is : List Item) (rest : List Token) (κ : Kind) (v : View (drop i t) is rest κ) → f y (left v) ≡ f y is)
       → Making S f bytes t at from n₀ out₀ out i n → Making S f bytes t at from n₀ out₀ out j n
   making-skip out i j n c s skips m =
@@ -107,31 +107,31 @@ module _ (S : Type 0) (f : S → List Item → S) (bytes : S → List ℕ) (t : 
 -- ---- items that a pass leaves alone
 
 -- the first word of an item; any word from 256 on begins a triple
-abbrev pub itemWord : Item → ℕ
-itemWord (aTriple p) = 256
-itemWord (aGroup n) = 123
-itemWord (anOptional c n) = 79
-itemWord (aFilter c) = 70
-itemWord (aProjection v) = 84
-itemWord (aBound l u) = 69
+abbrev pub item_word : Item → ℕ
+item_word (a_triple p) = 256
+item_word (a_group n) = 123
+item_word (an_optional c n) = 79
+item_word (a_filter c) = 70
+item_word (a_projection v) = 84
+item_word (a_bound l u) = 69
 
 -- a pass that uses only items with the word w leaves alone what begins with another one
 module _ {S : Type 0} (f : S → List Item → S) (w : ℕ) (h : w < 256)
-    (over : (y : S) (x : Item) (is : List Item) → (itemWord x ≡ w → ⊥) → f y is ≡ f y (x ∷ is)) (t : List ℕ) (i : ℕ) where
+    (over : (y : S) (x : Item) (is : List Item) → (item_word x ≡ w → ⊥) → f y is ≡ f y (x ∷ is)) (t : List ℕ) (i : ℕ) where
   other :
-      (y : S) (x : Item) (is later : List Item) (ws : List ℕ) → drop i t ≡ itemWord x ∷ ws → is ≡ x ∷ later → (get_or t i 0 ≡ w → ⊥)
+      (y : S) (x : Item) (is later : List Item) (ws : List ℕ) → drop i t ≡ item_word x ∷ ws → is ≡ x ∷ later → (get_or t i 0 ≡ w → ⊥)
       → f y later ≡ f y is
   other y x is later ws e q m = over y x later (λ z. m (word_first t ws i _ e ∙ z)) ∙ sym (ap (f y) q)
 
   pub skips :
       (get_or t i 0 ≡ 125 → ⊥) → (get_or t i 0 ≡ w → ⊥) → (y : S) (is : List Item) (rest : List Token) (κ : Kind)
       (v : View (drop i t) is rest κ) → f y (left v) ≡ f y is
-  skips n m y is rest κ (atEnd e q) = absurd (n (word_first t _ i _ e))
-  skips n m y is rest κ (atDot ts e g) = refl
-  skips n m y is rest κ (atUnion b us ts e g) = refl
-  skips n m y is rest κ (atTriple a b c ts later e q g) = over y _ later (λ z. omega arith) ∙ sym (ap (f y) q)
-  skips n m y is rest κ (atGroup b us ts later e q g) = other y _ is later _ e q m
-  skips n m y is rest κ (atOptional b ts later e q g) = other y _ is later _ e q m
-  skips n m y is rest κ (atFilter d ts later e q g) = other y _ is later _ e q m
-  skips n m y is rest κ (atProjection v ts later e q g) = other y _ is later _ e q m
-  skips n m y is rest κ (atBound l u ts later e q g) = other y _ is later _ e q m
+  skips n m y is rest κ (at_end e q) = absurd (n (word_first t _ i _ e))
+  skips n m y is rest κ (at_dot ts e g) = refl
+  skips n m y is rest κ (at_union b us ts e g) = refl
+  skips n m y is rest κ (at_triple a b c ts later e q g) = over y _ later (λ z. omega arith) ∙ sym (ap (f y) q)
+  skips n m y is rest κ (at_group b us ts later e q g) = other y _ is later _ e q m
+  skips n m y is rest κ (at_optional b ts later e q g) = other y _ is later _ e q m
+  skips n m y is rest κ (at_filter d ts later e q g) = other y _ is later _ e q m
+  skips n m y is rest κ (at_projection v ts later e q g) = other y _ is later _ e q m
+  skips n m y is rest κ (at_bound l u ts later e q g) = other y _ is later _ e q m

@@ -1,4 +1,4 @@
--- From one item to the next: the place that `step` answers by the word at a place (`step-..`), and what stands there (`next_place`).
+-- From one item to the next: the place that `step` answers by the word at a place (`step-..`), and what stands there (`next_place_lem`).
 -- Assumes nothing.
 use mathlib.Core.Path.{◌≡◌, sym, ap, ◌∙◌}
 use mathlib.Core.Bool.{Bool, true, false, cond, ◌||◌}
@@ -9,27 +9,27 @@ use lib.Dec.{eqb, leb}
 use lib.ListN.{drop, get_or}
 use lib.Seq.{drop-drop}
 use borrow.Author.Tests.{ne_eqb, le-leb, lt-leb}
-use Rattle.words.specs.Links.{behindOf, closing}
+use Rattle.words.specs.Links.{behind_of, closing}
 use Rattle.words.proofs.LinkLaws.{closing-forward, closing-behind}
-use Rattle.groups.specs.Items.{placeBy, nextPlace}
-use Rattle.groups.proofs.Fronts.{nextBy, nextItem, first_word}
+use Rattle.groups.specs.Items.{place_by, next_place}
+use Rattle.groups.proofs.Fronts.{next_by, next_item, first_word}
 
 module _ (t : List ℕ) (i : ℕ) where
   -- ---- by the word
 
-  pub step_by : (w : ℕ) → get_or t i 0 ≡ w → placeBy w t i ≡ nextPlace t i
-  unfolding nextPlace
-  step_by w e = ap (λ (n : ℕ). placeBy n t i) (sym e)
+  pub step_by : (w : ℕ) → get_or t i 0 ≡ w → place_by w t i ≡ next_place t i
+  unfolding next_place
+  step_by w e = ap (λ (n : ℕ). place_by n t i) (sym e)
 
-  pub step-triple : 256 ≤ get_or t i 0 → i + 3 ≡ nextPlace t i
-  unfolding nextPlace
+  pub step-triple : 256 ≤ get_or t i 0 → i + 3 ≡ next_place t i
+  unfolding next_place
   step-triple h = sym (rw (le-leb 256 (get_or t i 0) h))
 
   -- a dot, or a word that begins no item
   pub step_other :
       get_or t i 0 < 256 → (get_or t i 0 ≡ 84 → ⊥) → (get_or t i 0 ≡ 69 → ⊥) → (get_or t i 0 ≡ 123 → ⊥) → (get_or t i 0 ≡ 70 → ⊥)
-      → (get_or t i 0 ≡ 79 → ⊥) → (get_or t i 0 ≡ 85 → ⊥) → i + 1 ≡ nextPlace t i
-  unfolding nextPlace
+      → (get_or t i 0 ≡ 79 → ⊥) → (get_or t i 0 ≡ 85 → ⊥) → i + 1 ≡ next_place t i
+  unfolding next_place
   step_other h a b c d e f =
       let w = get_or t i 0 in
       sym (rw (lt-leb 256 w h, ne_eqb w 84 a, ne_eqb w 69 b, ne_eqb w 123 c, ne_eqb w 70 d, ne_eqb w 79 e, ne_eqb w 85 f))
@@ -46,8 +46,8 @@ module _ (t : List ℕ) (i : ℕ) where
   forward false false false true = omega (arith, closing-forward t (i + 2))
   forward false false false false = omega arith
 
-  pub next-forward : (r : ℕ) → r ≡ nextPlace t i → i < r
-  unfolding nextPlace
+  pub next-forward : (r : ℕ) → r ≡ next_place t i → i < r
+  unfolding next_place
   next-forward r e =
       let w = get_or t i 0 in
       omega (arith, e, forward (leb 256 w || eqb w 84) (eqb w 69) (eqb w 123) (eqb w 70 || (eqb w 79 || eqb w 85)))
@@ -55,24 +55,24 @@ module _ (t : List ℕ) (i : ℕ) where
   over : (n : ℕ) → drop (i + n) t ≡ drop n (drop i t)
   over n = sym (drop-drop n i t)
 
-  closed : (n : ℕ) → drop (closing t (i + n)) t ≡ behindOf 1 (drop n (drop i t))
-  closed n = closing-behind t (i + n) ∙ ap (behindOf 1) (over n)
+  closed : (n : ℕ) → drop (closing t (i + n)) t ≡ behind_of 1 (drop n (drop i t))
+  closed n = closing-behind t (i + n) ∙ ap (behind_of 1) (over n)
 
   stands : (a b c d : Bool)
       → drop (chosen a b c d) t
       ≡ cond a (drop 3 (drop i t))
       (cond b (drop 7 (drop i t))
-      (cond c (behindOf 1 (drop 1 (drop i t))) (cond d (behindOf 1 (drop 2 (drop i t))) (drop 1 (drop i t)))))
+      (cond c (behind_of 1 (drop 1 (drop i t))) (cond d (behind_of 1 (drop 2 (drop i t))) (drop 1 (drop i t)))))
   stands true b c d = over 3
   stands false true c d = over 7
   stands false false true d = closed 1
   stands false false false true = closed 2
   stands false false false false = over 1
 
-  pub next_place : (r : ℕ) → r ≡ nextPlace t i → drop r t ≡ nextItem (drop i t)
-  unfolding nextPlace
-  next_place r e =
+  pub next_place_lem : (r : ℕ) → r ≡ next_place t i → drop r t ≡ next_item (drop i t)
+  unfolding next_place
+  next_place_lem r e =
       let w = get_or t i 0 in
       ap (λ (n : ℕ). drop n t) e
       ∙ stands (leb 256 w || eqb w 84) (eqb w 69) (eqb w 123) (eqb w 70 || (eqb w 79 || eqb w 85))
-      ∙ ap (λ (n : ℕ). nextBy n (drop i t)) (sym (first_word t i))
+      ∙ ap (λ (n : ℕ). next_by n (drop i t)) (sym (first_word t i))

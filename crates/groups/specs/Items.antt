@@ -2,8 +2,8 @@
 -- nothing.
 use Rattle.std.specs.Prelude.{◌≡◌, Bool, cond, ◌||◌, List, ℕ, ◌+◌, eqb, leb, get_or}
 use Rattle.grammar.specs.Tokens.{Token}
-use Rattle.grammar.specs.Grammar.{Body, bodyTokens}
-use Rattle.grammar.specs.Sparql.{optionalDot}
+use Rattle.grammar.specs.Grammar.{Body, body_tokens}
+use Rattle.grammar.specs.Sparql.{optional_dot}
 use Rattle.grammar.specs.Meaning.{Item, items}
 use Rattle.words.specs.Words.{words}
 use Rattle.words.specs.Links.{closing}
@@ -13,7 +13,7 @@ pub record Follows (ts : List Token) (is : List Item) (rest : List Token) : Type
   pub bare : Bool
   pub tree : Body bare
   pub dot : Bool
-  pub written : ts ≡ optionalDot dot (bodyTokens tree rest)
+  pub written : ts ≡ optional_dot dot (body_tokens tree rest)
   pub means : is ≡ items tree
 
 -- the words ws are those of such tokens
@@ -24,13 +24,13 @@ pub record Items (ws : List ℕ) (is : List Item) (rest : List Token) : Type 0 w
 
 -- Where the item behind the one at i begins, of which w is the first word: a triple has three words, TRUST AS too, ENSURE TRUST seven; a
 -- group, a filter, an OPTIONAL and a further group of a UNION end where their bracket closes; a dot stands by itself.
-abbrev pub placeBy : ℕ → List ℕ → ℕ → ℕ
-placeBy w t i =
+abbrev pub place_by : ℕ → List ℕ → ℕ → ℕ
+place_by w t i =
     cond (leb 256 w || eqb w 84) (i + 3)
     (cond (eqb w 69) (i + 7)
     (cond (eqb w 123) (closing t (i + 1))
     (cond (eqb w 70 || (eqb w 79 || eqb w 85)) (closing t (i + 2)) (i + 1))))
 
 -- the same by the words alone
-unfoldable pub nextPlace : List ℕ → ℕ → ℕ
-nextPlace t i = placeBy (get_or t i 0) t i
+unfoldable pub next_place : List ℕ → ℕ → ℕ
+next_place t i = place_by (get_or t i 0) t i

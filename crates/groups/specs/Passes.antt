@@ -2,18 +2,18 @@
 -- begins behind `pre`. Assumes nothing.
 use Rattle.std.specs.Prelude.{◌≡◌, true, cond, List, [], ◌∷◌, ◌++◌, ℕ, ◌+◌, ◌-◌, ◌%◌, ◌≤◌, ltb, length, drop}
 use Rattle.std.proofs.Math.Option.{Option, none, some}
-use Rattle.tsparql.specs.Query.{Condition, patternSet}
-use Rattle.tsparql.specs.Writing.{nodeBytes, conditionBytes}
+use Rattle.tsparql.specs.Query.{Condition, pattern_set}
+use Rattle.tsparql.specs.Writing.{node_bytes, condition_bytes}
 use Rattle.grammar.specs.Tokens.{Token}
-use Rattle.grammar.specs.Grammar.{Body, bodyTokens}
-use Rattle.grammar.specs.Meaning.{Item, gathered, filters, conjoined, condition, unfiltered, groupNode, items}
+use Rattle.grammar.specs.Grammar.{Body, body_tokens}
+use Rattle.grammar.specs.Meaning.{Item, gathered, filters, conjoined, condition, unfiltered, group_node, items}
 use Rattle.blocks.specs.Blocks.{Holds}
 use Rattle.words.specs.Words.{words}
 use Rattle.groups.specs.declared.Halves.{Halves}
 
 -- the words of the body b stand at a place, and then those of rest
 abbrev pub BodyAt : List ℕ → ℕ → Body true → List Token → Type 0
-BodyAt t at b rest = drop at t ≡ words (bodyTokens b rest)
+BodyAt t at b rest = drop at t ≡ words (body_tokens b rest)
 
 -- ---- one pass
 
@@ -30,46 +30,46 @@ conjoin none (c ∷ cs) = some (conjoined c cs)
 conjoin (some c) cs = some (conjoined c cs)
 
 -- those of the filters among items
-abbrev pub conjoinFilters : Option Condition → List Item → Option Condition
-conjoinFilters o is = conjoin o (filters is)
+abbrev pub conjoin_filters : Option Condition → List Item → Option Condition
+conjoin_filters o is = conjoin o (filters is)
 
 -- the bytes of a condition, where there is one
-abbrev pub someBytes : Option Condition → List ℕ
-someBytes none = []
-someBytes (some c) = conditionBytes c
+abbrev pub some_bytes : Option Condition → List ℕ
+some_bytes none = []
+some_bytes (some c) = condition_bytes c
 
 -- the filters of the body, joined by and, were written behind `from` bytes
 abbrev pub Conjoins : List ℕ → ℕ → ℕ → List ℕ → List ℕ → ℕ → Type 0
-Conjoins t at from out out' r = Makes (Option Condition) conjoinFilters someBytes t at from out out' from r
+Conjoins t at from out out' r = Makes (Option Condition) conjoin_filters some_bytes t at from out out' from r
 
 -- ---- a group
 
 -- the block of what is joined in the body
-abbrev pub gatheredBytes : Body true → List ℕ
-gatheredBytes b = nodeBytes (gathered (patternSet []) [] (items b))
+abbrev pub gathered_bytes : Body true → List ℕ
+gathered_bytes b = node_bytes (gathered (pattern_set []) [] (items b))
 
 -- it became that of the group without its filters
 abbrev pub Unfilters : List ℕ → ℕ → ℕ → List ℕ → List ℕ → ℕ → ℕ → Type 0
 Unfilters t at from out out' n r =
-    (b : Body true) (rest : List Token) (pre : List ℕ) → BodyAt t at b rest → from ≡ length pre → Holds out (pre ++ gatheredBytes b) n
-    → length pre + length (nodeBytes (unfiltered (items b))) ≤ length out → Holds out' (pre ++ nodeBytes (unfiltered (items b))) r
+    (b : Body true) (rest : List Token) (pre : List ℕ) → BodyAt t at b rest → from ≡ length pre → Holds out (pre ++ gathered_bytes b) n
+    → length pre + length (node_bytes (unfiltered (items b))) ≤ length out → Holds out' (pre ++ node_bytes (unfiltered (items b))) r
 
 -- it became that of the group with its filters
 abbrev pub Filters : List ℕ → ℕ → ℕ → List ℕ → List ℕ → ℕ → ℕ → Type 0
 Filters t at from out out' n r =
-    (b : Body true) (rest : List Token) (pre : List ℕ) → BodyAt t at b rest → from ≡ length pre → Holds out (pre ++ gatheredBytes b) n
-    → length pre + length (nodeBytes (groupNode (items b))) ≤ length out → Holds out' (pre ++ nodeBytes (groupNode (items b))) r
+    (b : Body true) (rest : List Token) (pre : List ℕ) → BodyAt t at b rest → from ≡ length pre → Holds out (pre ++ gathered_bytes b) n
+    → length pre + length (node_bytes (group_node (items b))) ≤ length out → Holds out' (pre ++ node_bytes (group_node (items b))) r
 
 -- it became that of an OPTIONAL's group, and the condition of the left join stands behind it
 abbrev pub Splits : List ℕ → ℕ → ℕ → List ℕ → List ℕ → ℕ → Halves → Type 0
 Splits t at from out out' n r =
-    (b : Body true) (rest : List Token) (pre : List ℕ) → BodyAt t at b rest → from ≡ length pre → Holds out (pre ++ gatheredBytes b) n
-    → length pre + length (nodeBytes (unfiltered (items b))) + length (conditionBytes (condition (filters (items b)))) ≤ length out
-    → (r.mid ≡ length pre + length (nodeBytes (unfiltered (items b))))
-    × Holds out' (pre ++ (nodeBytes (unfiltered (items b)) ++ conditionBytes (condition (filters (items b))))) r.len
+    (b : Body true) (rest : List Token) (pre : List ℕ) → BodyAt t at b rest → from ≡ length pre → Holds out (pre ++ gathered_bytes b) n
+    → length pre + length (node_bytes (unfiltered (items b))) + length (condition_bytes (condition (filters (items b)))) ≤ length out
+    → (r.mid ≡ length pre + length (node_bytes (unfiltered (items b))))
+    × Holds out' (pre ++ (node_bytes (unfiltered (items b)) ++ condition_bytes (condition (filters (items b))))) r.len
 
 -- ---- bounds
 
 -- a bound plus 1000, from its word
-abbrev pub boundIn : ℕ → ℕ
-boundIn w = cond (ltb w 4194304) (1000 + w % 1048576 % 1001) (1000 - w % 1048576 % 1001)
+abbrev pub bound_in : ℕ → ℕ
+bound_in w = cond (ltb w 4194304) (1000 + w % 1048576 % 1001) (1000 - w % 1048576 % 1001)

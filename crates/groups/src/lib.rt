@@ -1,12 +1,12 @@
 // The passes over a group's items: its projections, its bounds and its filters around what is joined in it.
 ghost use Rattle.std.specs.Prelude.{◌∷◌, ◌≡◌, ◌≤◌, ◌<◌, length};
 ghost use Rattle.tsparql.specs.Query.{Node};
-ghost use Rattle.tsparql.specs.Writing.{nodeBytes, threeBytes};
+ghost use Rattle.tsparql.specs.Writing.{node_bytes, three_bytes};
 ghost use Rattle.grammar.specs.Meaning.{projected, bounded};
 ghost use Rattle.blocks.specs.Buffers.{buffer, prepended};
 ghost use Rattle.words.specs.Links.{Linked};
-ghost use Rattle.groups.specs.Items.{nextPlace};
-ghost use Rattle.groups.specs.Passes.{Makes, Conjoins, Unfilters, Filters, Splits, boundIn};
+ghost use Rattle.groups.specs.Items.{next_place};
+ghost use Rattle.groups.specs.Passes.{Makes, Conjoins, Unfilters, Filters, Splits, bound_in};
 
 use blocks::{append, exchange, put};
 use clauses::condition;
@@ -25,7 +25,7 @@ pub struct Halves {
 // From one item of a group to the next.
 pub fn step(t: &[u32], i: usize, ends: &[u16]) -> usize
     requires { (i < length t.now) × Linked t.now ends.now }
-    ensures { result ≡ nextPlace t.now i }
+    ensures { result ≡ next_place t.now i }
 {
     let w = t[i];
     if FIRST_VARIABLE <= w {
@@ -55,7 +55,7 @@ pub fn step(t: &[u32], i: usize, ends: &[u16]) -> usize
 // The projections of the group at a place, around the block behind `from` bytes.
 fn projections(t: &[u32], at: usize, out: &mut [u8], from: usize, len: usize, ends: &[u16]) -> usize
     requires { Linked t.now ends.now }
-    ensures { Makes Node projected nodeBytes t.now at from out.old out.new len result }
+    ensures { Makes Node projected node_bytes t.now at from out.old out.new len result }
 {
     let mut i = at;
     let mut n = len;
@@ -79,7 +79,7 @@ fn projections(t: &[u32], at: usize, out: &mut [u8], from: usize, len: usize, en
 
 // A bound from its word, plus 1000.
 fn thousandths(w: u32) -> u32
-    ensures { (result ≤ 2000) × (result ≡ boundIn w) }
+    ensures { (result ≤ 2000) × (result ≡ bound_in w) }
 {
     if w < FIRST_NEGATIVE {
         1000 + w % 1048576 % 1001
@@ -91,7 +91,7 @@ fn thousandths(w: u32) -> u32
 // The bytes of ensure trust in front of a block.
 fn put4(out: &mut [u8], at: usize, end: usize, x: u32) -> usize
     requires { x < 16777216 }
-    ensures { buffer out.new result ≡ prepended (buffer out.old end) at (96 ∷ threeBytes x) }
+    ensures { buffer out.new result ≡ prepended (buffer out.old end) at (96 ∷ three_bytes x) }
 {
     let a = put(out, at, end, (x % 256) as u8);
     let b = put(out, at, a, (x / 256 % 256) as u8);
@@ -102,7 +102,7 @@ fn put4(out: &mut [u8], at: usize, end: usize, x: u32) -> usize
 // The bounds of the group at a place, around the block behind `from` bytes.
 fn bounds(t: &[u32], at: usize, out: &mut [u8], from: usize, len: usize, ends: &[u16]) -> usize
     requires { Linked t.now ends.now }
-    ensures { Makes Node bounded nodeBytes t.now at from out.old out.new len result }
+    ensures { Makes Node bounded node_bytes t.now at from out.old out.new len result }
 {
     let mut i = at;
     let mut n = len;

@@ -11,26 +11,26 @@ use Rattle.heads.specs.declared.NodeRead.{NodeRead}
 use Rattle.heads.specs.declared.NodeRead.TheVariants as N
 
 -- the head and the next place, or the fault
-abbrev pub conditionFound : ConditionRead → Read ConditionHead
-conditionFound (CR.Condition h n) = got h n
-conditionFound (CR.Fault p) = fault p
+abbrev pub condition_found : ConditionRead → Read ConditionHead
+condition_found (CR.Condition h n) = got h n
+condition_found (CR.Fault p) = fault p
 
 -- the head and the next place, or the fault
-abbrev pub nodeFound : NodeRead → Read Head
-nodeFound (N.Node h n) = got h n
-nodeFound (N.Fault p) = fault p
+abbrev pub node_found : NodeRead → Read Head
+node_found (N.Node h n) = got h n
+node_found (N.Fault p) = fault p
 
 -- the place of a fault; 0 where there is none
-abbrev pub faultIn : {A : Type 0} → Read A → ℕ
-faultIn (got a n) = 0
-faultIn (fault p) = p
+abbrev pub fault_in : {A : Type 0} → Read A → ℕ
+fault_in (got a n) = 0
+fault_in (fault p) = p
 
 -- how many patterns a head has
-abbrev pub patternCount : Head → ℕ
-patternCount (H.PatternSet n) = n
-patternCount H.Join = 0
-patternCount H.LeftJoin = 0
-patternCount H.Union = 0
-patternCount H.Filter = 0
-patternCount (H.ProjectTrust v) = 0
-patternCount (H.EnsureTrust l u) = 0
+abbrev pub pattern_count : Head → ℕ
+pattern_count (H.PatternSet n) = n
+pattern_count H.Join = 0
+pattern_count H.LeftJoin = 0
+pattern_count H.Union = 0
+pattern_count H.Filter = 0
+pattern_count (H.ProjectTrust v) = 0
+pattern_count (H.EnsureTrust l u) = 0

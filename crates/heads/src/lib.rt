@@ -2,9 +2,9 @@
 // of the query from there on, and answers the head with the place behind the head's own bytes, or where the fault is, both counted from
 // the part's start.
 ghost use Rattle.std.specs.Prelude.{◌≡◌};
-ghost use Rattle.heads.specs.Answers.{conditionFound, nodeFound, faultIn};
-ghost use Rattle.heads.specs.Parts.{second_of, termOf, pairHead, termHead, connective, conditionHeadRead, conditionOperands};
-ghost use Rattle.heads.specs.Parts.{boundsHead, plainHead, nodeHeadRead, nodeOperands};
+ghost use Rattle.heads.specs.Answers.{condition_found, node_found, fault_in};
+ghost use Rattle.heads.specs.Parts.{second_of, term_of, pair_head, term_head, connective, condition_head_read, condition_operands};
+ghost use Rattle.heads.specs.Parts.{bounds_head, plain_head, node_head_read, node_operands};
 
 use slots::{bits_at, term_sound};
 
@@ -65,7 +65,7 @@ fn second_of(q: &[u8]) -> u8
 
 // The term of is-term, or 0 where there is none.
 fn term_of(q: &[u8]) -> u32
-    ensures { result ≡ termOf q.now }
+    ensures { result ≡ term_of q.now }
 {
     if q.len() < 4 {
         return 0;
@@ -76,7 +76,7 @@ fn term_of(q: &[u8]) -> u32
 
 // Same (true) or less, with n for its first variable.
 fn pair_head(q: &[u8], n: u8, same: bool) -> ConditionRead
-    ensures { conditionFound result ≡ pairHead q.now n same }
+    ensures { condition_found result ≡ pair_head q.now n same }
 {
     let w = second_of(q);
     if w < 16 {
@@ -92,7 +92,7 @@ fn pair_head(q: &[u8], n: u8, same: bool) -> ConditionRead
 
 // Is-term, with n for its variable.
 fn term_head(q: &[u8], n: u8) -> ConditionRead
-    ensures { conditionFound result ≡ termHead q.now n }
+    ensures { condition_found result ≡ term_head q.now n }
 {
     let a = term_of(q);
     if a == 0 {
@@ -104,7 +104,7 @@ fn term_head(q: &[u8], n: u8) -> ConditionRead
 
 // Not, and, or, true: n must be 0.
 fn connective_head(kind: u8, n: u8) -> ConditionRead
-    ensures { conditionFound result ≡ connective kind n }
+    ensures { condition_found result ≡ connective kind n }
 {
     if n == 0 {
         match kind {
@@ -121,7 +121,7 @@ fn connective_head(kind: u8, n: u8) -> ConditionRead
 
 // The head of the condition that a part starts with, and the place behind the head's own bytes.
 pub fn read_condition_head(q: &[u8]) -> ConditionRead
-    ensures { conditionFound result ≡ conditionHeadRead q.now }
+    ensures { condition_found result ≡ condition_head_read q.now }
 {
     if q.len() == 0 {
         return ConditionRead::Fault(0);
@@ -140,7 +140,7 @@ pub fn read_condition_head(q: &[u8]) -> ConditionRead
 
 // How many conditions are the operands of a condition.
 pub fn condition_operands(h: ConditionHead) -> u8
-    ensures { result ≡ conditionOperands h }
+    ensures { result ≡ condition_operands h }
 {
     match h {
         ConditionHead::Bound(_) => 0,
@@ -156,7 +156,7 @@ pub fn condition_operands(h: ConditionHead) -> u8
 
 // The place of a fault; 0 where there is none.
 pub fn condition_fault(r: ConditionRead) -> usize
-    ensures { result ≡ faultIn (conditionFound r) }
+    ensures { result ≡ fault_in (condition_found r) }
 {
     match r {
         ConditionRead::Condition(_, _) => 0,
@@ -168,7 +168,7 @@ pub fn condition_fault(r: ConditionRead) -> usize
 
 // Ensure trust: n must be 0, and two bounds follow.
 fn bounds_head(q: &[u8], n: u8) -> NodeRead
-    ensures { nodeFound result ≡ boundsHead q.now n }
+    ensures { node_found result ≡ bounds_head q.now n }
 {
     if n == 0 {
         if 4 <= q.len() {
@@ -187,7 +187,7 @@ fn bounds_head(q: &[u8], n: u8) -> NodeRead
 
 // Join, left join, union, filter: n must be 0.
 fn plain_head(kind: u8, n: u8) -> NodeRead
-    ensures { nodeFound result ≡ plainHead kind n }
+    ensures { node_found result ≡ plain_head kind n }
 {
     if n == 0 {
         match kind {
@@ -204,7 +204,7 @@ fn plain_head(kind: u8, n: u8) -> NodeRead
 
 // The head of the node that a part starts with, and the place behind the head's own bytes.
 pub fn read_head(q: &[u8]) -> NodeRead
-    ensures { nodeFound result ≡ nodeHeadRead q.now }
+    ensures { node_found result ≡ node_head_read q.now }
 {
     if q.len() == 0 {
         return NodeRead::Fault(0);
@@ -222,7 +222,7 @@ pub fn read_head(q: &[u8]) -> NodeRead
 
 // How many nodes are the operands of a node.
 pub fn node_operands(h: Head) -> u8
-    ensures { result ≡ nodeOperands h }
+    ensures { result ≡ node_operands h }
 {
     match h {
         Head::PatternSet(_) => 0,
@@ -237,7 +237,7 @@ pub fn node_operands(h: Head) -> u8
 
 // The place of a fault; 0 where there is none.
 pub fn node_fault(r: NodeRead) -> usize
-    ensures { result ≡ faultIn (nodeFound r) }
+    ensures { result ≡ fault_in (node_found r) }
 {
     match r {
         NodeRead::Node(_, _) => 0,

@@ -5,9 +5,9 @@ use mathlib.Core.Bool.{Bool}
 use mathlib.Core.List.{List, [], ◌∷◌, ◌++◌}
 use Prim.Native.Nat.{ℕ, ◌+◌, ◌*◌, ◌-◌, ◌≤◌, ◌<◌}
 use lib.ListN.{length, drop}
-use Rattle.grammar.specs.Tokens.{Token, isWordNumberOrVariable}
+use Rattle.grammar.specs.Tokens.{Token, is_word_number_or_variable}
 use Rattle.grammar.specs.Automaton.{Symbol, gap, fault, after, run}
-use Rattle.words.specs.Words.{tokenWord}
+use Rattle.words.specs.Words.{token_word}
 use Rattle.lexer.specs.Symbols.{packed}
 use Rattle.lexer.specs.declared.Step.{Step}
 use Rattle.lexer.specs.declared.Step.TheVariants as S
@@ -17,16 +17,16 @@ use Rattle.lexer.specs.declared.Lexeme.{Lexeme}
 pub record Took (s : List ℕ) (at : ℕ) (tight : Bool) (X : Symbol) (l : Lexeme) : Type 0 where
   pub token : Token
   pub production : List Symbol
-  pub word : l.word ≡ tokenWord token
+  pub word : l.word ≡ token_word token
   pub pushes : l.production ≡ packed production
-  pub ends : l.tight ≡ isWordNumberOrVariable token
+  pub ends : l.tight ≡ is_word_number_or_variable token
   pub forward : at < l.next
   pub inside : l.next ≤ length s
   pub few : length production ≤ 1 + 2 * (l.next - at)
   pub runs :
       (σ : List Symbol)
       → run (drop at s) at (gap tight (X ∷ σ))
-      ≡ after (token ∷ []) (run (drop l.next s) l.next (gap (isWordNumberOrVariable token) (production ++ σ)))
+      ≡ after (token ∷ []) (run (drop l.next s) l.next (gap (is_word_number_or_variable token) (production ++ σ)))
 
 -- a token, or the place of the fault
 abbrev pub Advanced : List ℕ → ℕ → Bool → Symbol → Step → Type 0

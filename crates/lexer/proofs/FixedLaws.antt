@@ -12,20 +12,20 @@ use lib.ListN.{length, take, drop, get_or, length-drop}
 use lib.Seq.{drop-cons}
 use borrow.Author.Tests.{eq-eqb, ne_eqb}
 use Rattle.tsparql.proofs.ListLaws.{part-drop}
-use Rattle.grammar.specs.Tokens.{mark, isCapital}
+use Rattle.grammar.specs.Tokens.{mark, is_capital}
 use Rattle.grammar.specs.Automaton.{Symbol, Entry, marks, find, digit, gap, fault, run}
 use Rattle.grammar.proofs.Basics.{cond_cases}
 use Rattle.grammar.proofs.TableFacts.{fact_of, find-mem}
 use Rattle.scanner.specs.Scans.{common}
-use Rattle.scanner.specs.Fixed.{fixedToken, compared}
+use Rattle.scanner.specs.Fixed.{fixed_token, compared}
 use Rattle.scanner.specs.declared.Literal.{Literal}
 use Rattle.scanner.specs.declared.Literal.TheVariants as L
 use Rattle.scanner.proofs.RunLaws.{stop-at}
 use Rattle.scanner.proofs.CompareLaws.{common-within, Says, compared-says}
 use Rattle.scanner.proofs.FixedLaws.{literal-whole, literal-part}
 use Rattle.lexer.specs.Symbols.{packed}
-use Rattle.lexer.specs.Rules.{productionOf, allows, followOf}
-use Rattle.lexer.specs.NextToken.{wordToken, word_at, whenAllowed, wordApart, fixed_at}
+use Rattle.lexer.specs.Rules.{production_of, allows, follow_of}
+use Rattle.lexer.specs.NextToken.{word_token, word_at, when_allowed, word_apart, fixed_at}
 use Rattle.lexer.specs.declared.Step.{Step}
 use Rattle.lexer.specs.declared.Step.TheVariants as S
 use Rattle.lexer.specs.declared.Lexeme.{Lexeme}
@@ -37,17 +37,17 @@ use Rattle.lexer.proofs.FirstByte.{Other, mark-none, mark-tight}
 
 -- l is the fixed token with the first byte at `at`, which stands there whole
 record Spelled (s : List ℕ) (at production : ℕ) (l : Lexeme) : Type 0 where
-  pub whole : common (fixedToken (get_or s at 0)) (drop at s) ≡ length (fixedToken (get_or s at 0))
-  pub next : l.next ≡ at + length (fixedToken (get_or s at 0))
+  pub whole : common (fixed_token (get_or s at 0)) (drop at s) ≡ length (fixed_token (get_or s at 0))
+  pub next : l.next ≡ at + length (fixed_token (get_or s at 0))
   pub inside : l.next ≤ length s
   pub word : l.word ≡ get_or s at 0
-  pub ends : l.tight ≡ isCapital (get_or s at 0)
+  pub ends : l.tight ≡ is_capital (get_or s at 0)
   pub pushes : l.production ≡ production
 
 -- only a part of it stands there, up to `reached`
 record Misspelled (s : List ℕ) (at reached : ℕ) : Type 0 where
-  pub part : common (fixedToken (get_or s at 0)) (drop at s) < length (fixedToken (get_or s at 0))
-  pub place : reached ≡ at + common (fixedToken (get_or s at 0)) (drop at s)
+  pub part : common (fixed_token (get_or s at 0)) (drop at s) < length (fixed_token (get_or s at 0))
+  pub place : reached ≡ at + common (fixed_token (get_or s at 0)) (drop at s)
 
 -- by the answer
 abbrev Spelling : List ℕ → ℕ → ℕ → Step → Type 0
@@ -60,12 +60,12 @@ pub part-first : (s : List ℕ) (at : ℕ) → at < length s
 part-first s at h = let e = part-drop s at ∙ drop-cons s at 0 h in (omega (arith, ap length e), ap (λ (l : List ℕ). get_or l 0 0) e)
 
 module _ (s : List ℕ) (at : ℕ) (k : Literal) (h : at < length s)
-    (e : k ≡ compared (fixedToken (get_or s at 0)) (take (length s - at) (drop at s))) where
-  says : (answer : Literal) → k ≡ answer → Says (fixedToken (get_or s at 0)) (drop at s) answer
-  says answer q = compared-says (fixedToken (get_or s at 0)) (drop at s) k answer (rw part-drop at e) q
+    (e : k ≡ compared (fixed_token (get_or s at 0)) (take (length s - at) (drop at s))) where
+  says : (answer : Literal) → k ≡ answer → Says (fixed_token (get_or s at 0)) (drop at s) answer
+  says answer q = compared-says (fixed_token (get_or s at 0)) (drop at s) k answer (rw part-drop at e) q
 
-  inside : (n : ℕ) → n ≡ common (fixedToken (get_or s at 0)) (drop at s) → at + n ≤ length s
-  inside n q = omega (arith, (common-within (fixedToken (get_or s at 0)) (drop at s)).1, length-drop at s)
+  inside : (n : ℕ) → n ≡ common (fixed_token (get_or s at 0)) (drop at s) → at + n ≤ length s
+  inside n q = omega (arith, (common-within (fixed_token (get_or s at 0)) (drop at s)).1, length-drop at s)
 
   pub whole-inside : (n : ℕ) → k ≡ L.Whole n → at + n ≤ length s
   whole-inside n q = inside n (says (L.Whole n) q).0
@@ -74,21 +74,21 @@ module _ (s : List ℕ) (at : ℕ) (k : Literal) (h : at < length s)
   part-inside n q = inside n (says (L.Part n) q).0
 
   -- the same of the whole text
-  pub word-token : (p : ℕ) (answer : Literal) → k ≡ answer → wordToken (get_or s at 0) p at answer ≡ word_at p s at
-  word-token p answer q = ap (wordToken (get_or s at 0) p at) (sym q ∙ rw part-drop at e)
+  pub word-token : (p : ℕ) (answer : Literal) → k ≡ answer → word_token (get_or s at 0) p at answer ≡ word_at p s at
+  word-token p answer q = ap (word_token (get_or s at 0) p at) (sym q ∙ rw part-drop at e)
 
 word-says : (s : List ℕ) (at p : ℕ) → at < length s → Spelling s at p (word_at p s at)
 word-says s at p h = go (compared token (drop at s)) (compared-says token (drop at s) _ _ refl refl)
   where
     token : List ℕ
-    token = fixedToken (get_or s at 0)
+    token = fixed_token (get_or s at 0)
 
-    go : (k : Literal) → Says (fixedToken (get_or s at 0)) (drop at s) k → Spelling s at p (wordToken (get_or s at 0) p at k)
+    go : (k : Literal) → Says (fixed_token (get_or s at 0)) (drop at s) k → Spelling s at p (word_token (get_or s at 0) p at k)
     go (L.Whole n) r =
         record {
           whole = r.1;
           next = omega (arith, r.0, r.1);
-          inside = omega (arith, r.0, (common-within (fixedToken (get_or s at 0)) (drop at s)).1, length-drop at s);
+          inside = omega (arith, r.0, (common-within (fixed_token (get_or s at 0)) (drop at s)).1, length-drop at s);
           word = refl;
           ends = refl;
           pushes = refl;
@@ -98,7 +98,7 @@ word-says s at p h = go (compared token (drop at s)) (compared-says token (drop 
 -- ---- a fixed token by the entry of a symbol's table
 
 module _ (s : List ℕ) (at : ℕ) (a : Bool) (X : Symbol) (h : at < length s) (entry : Entry) (among : Memᴰ entry (marks X))
-    (first : get_or s at 0 ≡ get_or entry.0 0 0) (c : (a && isCapital (get_or s at 0)) ≡ false) where
+    (first : get_or s at 0 ≡ get_or entry.0 0 0) (c : (a && is_capital (get_or s at 0)) ≡ false) where
   -- its bytes, and those behind the first one
   abbrev word : List ℕ
   word = entry.0
@@ -106,13 +106,13 @@ module _ (s : List ℕ) (at : ℕ) (a : Bool) (X : Symbol) (h : at < length s) (
   abbrev later : List ℕ
   later = drop 1 word
 
-  loose : (a && isCapital (get_or word 0 0)) ≡ false
+  loose : (a && is_capital (get_or word 0 0)) ≡ false
   loose = rw first at c
 
   begins : word ≡ get_or s at 0 ∷ later
   begins = rw first (fact_of X among).begins
 
-  token : fixedToken (get_or s at 0) ≡ word
+  token : fixed_token (get_or s at 0) ≡ word
   token = rw first (sym (entry-word X among))
 
   size : length word ≡ suc (length later)
@@ -133,7 +133,7 @@ module _ (s : List ℕ) (at : ℕ) (a : Bool) (X : Symbol) (h : at < length s) (
         production = entry.1;
         word = t.word ∙ first;
         pushes = t.pushes;
-        ends = t.ends ∙ ap isCapital first;
+        ends = t.ends ∙ ap is_capital first;
         forward = omega (arith, next);
         inside = t.inside;
         few = omega (arith, next, size, entry-few X among);
@@ -157,8 +157,8 @@ not-zero : (b : ℕ) → digit b ≡ false → eqb b 48 ≡ false
 not-zero b d = ne_eqb b 48 (λ e. true≢false (rw e at d))
 
 -- what a symbol allows there is what its fixed tokens say
-allows-mark : (X : Symbol) (b : ℕ) → Other b → allows X b ≡ productionOf (find b (marks X))
-allows-mark X b o = rw (o.noQuestionMark, not-zero b o.noDigit)
+allows-mark : (X : Symbol) (b : ℕ) → Other b → allows X b ≡ production_of (find b (marks X))
+allows-mark X b o = rw (o.no_question_mark, not-zero b o.no_digit)
 
 module _ (s : List ℕ) (at : ℕ) (a : Bool) (X : Symbol) (h : at < length s) (o : Other (get_or s at 0)) where
   abbrev byte : ℕ
@@ -166,13 +166,13 @@ module _ (s : List ℕ) (at : ℕ) (a : Bool) (X : Symbol) (h : at < length s) (
 
   -- for a production, where there is one
   abbrev Apart : Option (List Symbol) → Type 0
-  Apart o = Advanced s at a X (whenAllowed at (wordApart a s at) (followOf o))
+  Apart o = Advanced s at a X (when_allowed at (word_apart a s at) (follow_of o))
 
-  listed : Apart (productionOf (find byte (marks X)))
+  listed : Apart (production_of (find byte (marks X)))
   listed =
-      find-mem byte (marks X) (λ e. find byte (marks X) ≡ e → Apart (productionOf e))
+      find-mem byte (marks X) (λ e. find byte (marks X) ≡ e → Apart (production_of e))
       (λ e σ. stop-at s at (gap a (X ∷ σ)) h (mark-none a X σ byte o e))
-      (λ entry m f e. cond_cases (Advanced s at a X) (a && isCapital byte)
+      (λ entry m f e. cond_cases (Advanced s at a X) (a && is_capital byte)
       (λ c σ. stop-at s at (gap a (X ∷ σ)) h (mark-tight a X σ byte o entry e (rw f at c)))
       (λ c. fixed-spelled s at a X h entry m f c (word_at (packed entry.1) s at) (word-says s at (packed entry.1) h))) refl
 

@@ -14,7 +14,7 @@ use borrow.Author.Tests.{eqb-true}
 use Rattle.tsparql.specs.Strikes.{ascii}
 use Rattle.grammar.specs.Automaton.{Symbol, Entry, marks, vars, terms, find}
 use Rattle.lexer.specs.Symbols.{code, digits, packed, Gives}
-use Rattle.lexer.specs.Rules.{covering, productionOf, allows, followOf, follows}
+use Rattle.lexer.specs.Rules.{covering, production_of, allows, follow_of, follows}
 use Rattle.lexer.specs.declared.Rule.{Rule}
 use Rattle.lexer.specs.declared.Follow.{Follow}
 use Rattle.lexer.specs.declared.Follow.TheVariants as F
@@ -92,26 +92,26 @@ rules =
     rule 16 16 65 0 ∷
     rule 17 17 84 0 ∷ []
 
-table-var : (X : Symbol) → lookup rules (code X) 63 ≡ followOf (vars X)
+table-var : (X : Symbol) → lookup rules (code X) 63 ≡ follow_of (vars X)
 unfolding rules rule lookup digits
-table-var = alike (λ X. lookup rules (code X) 63) (λ X. followOf (vars X)) refl
+table-var = alike (λ X. lookup rules (code X) 63) (λ X. follow_of (vars X)) refl
 
-table-term : (X : Symbol) → lookup rules (code X) 48 ≡ followOf (terms X)
+table-term : (X : Symbol) → lookup rules (code X) 48 ≡ follow_of (terms X)
 unfolding rules rule lookup digits
-table-term = alike (λ X. lookup rules (code X) 48) (λ X. followOf (terms X)) refl
+table-term = alike (λ X. lookup rules (code X) 48) (λ X. follow_of (terms X)) refl
 
 -- the fixed tokens among entries, by their first byte
 picked : ℕ → List Entry → Follow
 picked b [] = F.Nothing
 picked b (e ∷ es) = cond (eqb b (get_or e.0 0 0)) (F.With (packed e.1)) (picked b es)
 
-picked-find : (b : ℕ) (es : List Entry) → picked b es ≡ followOf (productionOf (find b es))
+picked-find : (b : ℕ) (es : List Entry) → picked b es ≡ follow_of (production_of (find b es))
 unfolding picked
 picked-find b [] = refl
 picked-find b (e ∷ es) = split (eqb b (get_or e.0 0 0)) (picked-find b es)
   where
-    split : (x : Bool) → picked b es ≡ followOf (productionOf (find b es))
-        → cond x (F.With (packed e.1)) (picked b es) ≡ followOf (productionOf (cond x (some e) (find b es)))
+    split : (x : Bool) → picked b es ≡ follow_of (production_of (find b es))
+        → cond x (F.With (packed e.1)) (picked b es) ≡ follow_of (production_of (cond x (some e) (find b es)))
     split true ih = refl
     split false ih = ih
 
@@ -119,14 +119,14 @@ table-mark : (b : ℕ) → eqb b 63 ≡ false → eqb b 48 ≡ false → (X : Sy
 unfolding rules rule lookup digits picked ascii
 table-mark b p q = alike (λ X. lookup rules (code X) b) (λ X. picked b (marks X)) (rw (p, q))
 
-table-allows : (b : ℕ) (X : Symbol) → lookup rules (code X) b ≡ followOf (allows X b)
+table-allows : (b : ℕ) (X : Symbol) → lookup rules (code X) b ≡ follow_of (allows X b)
 table-allows b X = query (eqb b 63) refl
   where
-    zero-digit : (x : Bool) → eqb b 48 ≡ x → eqb b 63 ≡ false → lookup rules (code X) b ≡ followOf (allows X b)
+    zero-digit : (x : Bool) → eqb b 48 ≡ x → eqb b 63 ≡ false → lookup rules (code X) b ≡ follow_of (allows X b)
     zero-digit true e p = rw (eqb-true b 48 e) (table-term X)
     zero-digit false e p = table-mark b p e X ∙ picked-find b (marks X) ∙ sym (rw (p, e))
 
-    query : (x : Bool) → eqb b 63 ≡ x → lookup rules (code X) b ≡ followOf (allows X b)
+    query : (x : Bool) → eqb b 63 ≡ x → lookup rules (code X) b ≡ follow_of (allows X b)
     query true e = rw (eqb-true b 63 e) (table-var X)
     query false e = zero-digit (eqb b 48) refl e
 

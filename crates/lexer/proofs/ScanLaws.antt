@@ -9,16 +9,16 @@ use native.Mathlib.Numerals.{add-one}
 use lib.Dec.{eqb}
 use lib.ListN.{length, take, drop, set, get_or, length-set, length-append}
 use lib.Seq.{take-suc-set}
-use Rattle.grammar.specs.Tokens.{Token, isWordNumberOrVariable}
-use Rattle.grammar.specs.Automaton.{Symbol, sLBrace, sBody, gap, Outcome, accepted, fault, after, run, read, onto}
-use Rattle.words.specs.Words.{tokenWord}
-use Rattle.scanner.specs.Scans.{skipFrom}
+use Rattle.grammar.specs.Tokens.{Token, is_word_number_or_variable}
+use Rattle.grammar.specs.Automaton.{Symbol, s_lBrace, s_body, gap, Outcome, accepted, fault, after, run, read, onto}
+use Rattle.words.specs.Words.{token_word}
+use Rattle.scanner.specs.Scans.{skip_from}
 use Rattle.scanner.proofs.SpaceLaws.{SkippedAll, skip-says}
 use Rattle.scanner.proofs.RunLaws.{after_nothing, after-after, stop-at, end-at}
 use Rattle.lexer.specs.Symbols.{digits, Gives}
 use Rattle.lexer.specs.Stacks.{Stacked}
-use Rattle.lexer.specs.NextToken.{nextToken}
-use Rattle.lexer.specs.Steps.{Pushes, faultIn, Scans}
+use Rattle.lexer.specs.NextToken.{next_token}
+use Rattle.lexer.specs.Steps.{Pushes, fault_in, Scans}
 use Rattle.lexer.proofs.Advances.{Took, Advanced}
 use Rattle.lexer.proofs.NextLaws.{next-says}
 use Rattle.lexer.specs.declared.Step.{Step}
@@ -29,17 +29,17 @@ use Rattle.lexer.specs.declared.Lexeme.{Lexeme}
 use Rattle.lexer.proofs.StackLaws.{Top, stacked-top, stacked-none}
 
 pub record Scanning (s words₀ stack₀ words stack : List ℕ) (depth at : ℕ) (tight : Bool) (count : ℕ) : Type 0 where
-  pub roomWords : length s ≤ length words
-  pub roomStack : 2 + 2 * length s ≤ length stack
+  pub room_words : length s ≤ length words
+  pub room_stack : 2 + 2 * length s ≤ length stack
   pub same_words : length words ≡ length words₀
-  pub sameStack : length stack ≡ length stack₀
+  pub same_stack : length stack ≡ length stack₀
   pub inside : at ≤ length s
   pub few : count ≤ at
   pub low : depth ≤ 2 + 2 * at
   pub done : List Token
   pub symbols : List Symbol
   pub stacked : Stacked stack depth symbols
-  pub written : take count words ≡ map tokenWord done
+  pub written : take count words ≡ map token_word done
   pub size : count ≡ length done
   pub so : read s ≡ after done (run (drop at s) at (gap tight symbols))
 
@@ -49,21 +49,21 @@ pub scanning-first :
 unfolding read digits
 scanning-first s words stack stack' d w h e p =
     let empty : Stacked stack 0 [] = record { size = refl; front = refl } in
-    let two : Stacked stack' d (sLBrace ∷ sBody ∷ []) = p (sLBrace ∷ sBody ∷ []) [] refl empty (omega arith) in
+    let two : Stacked stack' d (s_lBrace ∷ s_body ∷ []) = p (s_lBrace ∷ s_body ∷ []) [] refl empty (omega arith) in
     record {
-      roomWords = w;
-      roomStack = omega arith;
+      room_words = w;
+      room_stack = omega arith;
       same_words = refl;
-      sameStack = refl;
+      same_stack = refl;
       inside = omega arith;
       few = omega arith;
       low = omega (arith, two.size);
       done = [];
-      symbols = sLBrace ∷ sBody ∷ [];
+      symbols = s_lBrace ∷ s_body ∷ [];
       stacked = two;
       written = refl;
       size = refl;
-      so = sym (after_nothing (run s 0 (gap false (sLBrace ∷ sBody ∷ []))));
+      so = sym (after_nothing (run s 0 (gap false (s_lBrace ∷ s_body ∷ []))));
     }
 
 module _ {s words₀ stack₀ words stack : List ℕ} {depth at : ℕ} {tight : Bool} {count : ℕ}
@@ -74,9 +74,9 @@ module _ {s words₀ stack₀ words stack : List ℕ} {depth at : ℕ} {tight : 
 
   -- ---- a turn
 
-  module _ (g : 0 < depth) (r : Step) (a : Gives (get_or stack (depth - 1) 0) (λ X. nextToken X tight s at) r) where
+  module _ (g : 0 < depth) (r : Step) (a : Gives (get_or stack (depth - 1) 0) (λ X. next_token X tight s at) r) where
     top : Top stack depth c.symbols
-    top = stacked-top stack depth c.symbols g (omega (arith, c.low, c.inside, c.roomStack)) c.stacked
+    top = stacked-top stack depth c.symbols g (omega (arith, c.low, c.inside, c.room_stack)) c.stacked
 
     advanced : (answer : Step) → r ≡ answer → Advanced s at tight top.symbol answer
     advanced answer q =
@@ -95,8 +95,8 @@ module _ {s words₀ stack₀ words stack : List ℕ} {depth at : ℕ} {tight : 
     scanning-token l stack' depth' q e p =
         let low = c.low in
         let inside = c.inside in
-        let room = c.roomStack in
-        let wide = c.roomWords in
+        let room = c.room_stack in
+        let wide = c.room_words in
         let few = c.few in
         let σ = top.below in
         let took : Took s at tight top.symbol l = advanced (S.Token l) q in
@@ -108,10 +108,10 @@ module _ {s words₀ stack₀ words stack : List ℕ} {depth at : ℕ} {tight : 
         let behind : Bool → Outcome = λ b. run (drop l.next s) l.next (gap b (α ++ σ)) in
         let pushed = p α σ took.pushes top.stacked (omega arith) in
         record {
-          roomWords = omega (arith, length-set words count l.word);
-          roomStack = omega arith;
+          room_words = omega (arith, length-set words count l.word);
+          room_stack = omega arith;
           same_words = length-set words count l.word ∙ c.same_words;
-          sameStack = e ∙ c.sameStack;
+          same_stack = e ∙ c.same_stack;
           inside = within;
           few = omega arith;
           low = omega (arith, pushed.size, length-append α σ, top.stacked.size);
@@ -120,25 +120,25 @@ module _ {s words₀ stack₀ words stack : List ℕ} {depth at : ℕ} {tight : 
           stacked = pushed;
           written =
               ap (λ (k : ℕ). take k (set words count l.word)) (add-one count) ∙ take-suc-set words count l.word (omega arith)
-              ∙ ap (λ (x : List ℕ). x ++ (l.word ∷ [])) c.written ∙ ap (λ (x : ℕ). map tokenWord c.done ++ (x ∷ [])) took.word
-              ∙ sym (map-append tokenWord c.done (token ∷ []));
+              ∙ ap (λ (x : List ℕ). x ++ (l.word ∷ [])) c.written ∙ ap (λ (x : ℕ). map token_word c.done ++ (x ∷ [])) took.word
+              ∙ sym (map-append token_word c.done (token ∷ []));
           size = omega (arith, c.size, length-append c.done (token ∷ []));
           so =
               onward (top.symbol ∷ σ) _ top.all (took.runs σ)
-              ∙ after-after c.done (token ∷ []) (behind (isWordNumberOrVariable token))
+              ∙ after-after c.done (token ∷ []) (behind (is_word_number_or_variable token))
               ∙ ap (λ (b : Bool). after (c.done ++ (token ∷ [])) (behind b)) (sym took.ends);
         }
 
     -- a fault of the step is one of the text
-    pub scanning-fault : (p : ℕ) (answer : Scanned) → r ≡ S.Fault p → answer ≡ faultIn r → Scans s words answer
+    pub scanning-fault : (p : ℕ) (answer : Scanned) → r ≡ S.Fault p → answer ≡ fault_in r → Scans s words answer
     scanning-fault p answer q e =
         let stops : (σ : List Symbol) → run (drop at s) at (gap tight (top.symbol ∷ σ)) ≡ fault p = advanced (S.Fault p) q in
         let place : read s ≡ fault p = onward (top.symbol ∷ top.below) (fault p) top.all (stops top.below) in
-        subst (Scans s words) (sym (e ∙ ap faultIn q)) place
+        subst (Scans s words) (sym (e ∙ ap fault_in q)) place
 
   -- ---- behind the last token
 
-  module _ (r : ℕ) (z : depth ≡ 0) (q : r ≡ skipFrom at (drop at s)) where
+  module _ (r : ℕ) (z : depth ≡ 0) (q : r ≡ skip_from at (drop at s)) where
     skipped : SkippedAll s at r
     skipped = skip-says s at r c.inside q
 

@@ -10,37 +10,37 @@ use lib.Dec.{eqb, leb}
 use lib.ListN.{length, get_or}
 use borrow.Author.Tests.{leb-true}
 use Rattle.tsparql.specs.Strikes.{ascii}
-use Rattle.grammar.specs.Automaton.{Symbol, sBody, sAfterTriple, sAfterElement, sAfterGroup, sSlot, sVar, sBound}
-use Rattle.grammar.specs.Automaton.{sPrimary, sNegatable, sRelation, sTail, sLBrace, sLParen, sRParen, sComma, sAS, sTRUST}
-use Rattle.grammar.specs.Automaton.{Entry, marks, vars, terms, isBound}
-use Rattle.scanner.specs.Fixed.{fixedToken}
+use Rattle.grammar.specs.Automaton.{Symbol, s_body, s_after_triple, s_after_element, s_after_group, s_slot, s_var, s_bound}
+use Rattle.grammar.specs.Automaton.{s_primary, s_negatable, s_relation, s_tail, s_lBrace, s_lParen, s_rParen, s_comma, s_aS, s_tRUST}
+use Rattle.grammar.specs.Automaton.{Entry, marks, vars, terms, is_bound}
+use Rattle.scanner.specs.Fixed.{fixed_token}
 use Rattle.lexer.specs.Symbols.{code}
 
 -- every symbol
 abbrev pub symbols : List Symbol
 symbols =
-    sBody ∷ sAfterTriple ∷ sAfterElement ∷ sAfterGroup ∷ sSlot ∷ sVar ∷ sBound ∷ sPrimary ∷ sNegatable ∷ sRelation ∷ sTail ∷ sLBrace ∷
-    sLParen ∷ sRParen ∷ sComma ∷ sAS ∷ sTRUST ∷ []
+    s_body ∷ s_after_triple ∷ s_after_element ∷ s_after_group ∷ s_slot ∷ s_var ∷ s_bound ∷ s_primary ∷ s_negatable ∷ s_relation ∷ s_tail ∷ s_lBrace ∷
+    s_lParen ∷ s_rParen ∷ s_comma ∷ s_aS ∷ s_tRUST ∷ []
 
 -- in the order of their codes
 at_code : {A : Type 0} (f : Symbol → A) (d : A) (X : Symbol) → get_or (map f symbols) (code X - 1) d ≡ f X
-at_code f d sBody = refl
-at_code f d sAfterTriple = refl
-at_code f d sAfterElement = refl
-at_code f d sAfterGroup = refl
-at_code f d sSlot = refl
-at_code f d sVar = refl
-at_code f d sBound = refl
-at_code f d sPrimary = refl
-at_code f d sNegatable = refl
-at_code f d sRelation = refl
-at_code f d sTail = refl
-at_code f d sLBrace = refl
-at_code f d sLParen = refl
-at_code f d sRParen = refl
-at_code f d sComma = refl
-at_code f d sAS = refl
-at_code f d sTRUST = refl
+at_code f d s_body = refl
+at_code f d s_after_triple = refl
+at_code f d s_after_element = refl
+at_code f d s_after_group = refl
+at_code f d s_slot = refl
+at_code f d s_var = refl
+at_code f d s_bound = refl
+at_code f d s_primary = refl
+at_code f d s_negatable = refl
+at_code f d s_relation = refl
+at_code f d s_tail = refl
+at_code f d s_lBrace = refl
+at_code f d s_lParen = refl
+at_code f d s_rParen = refl
+at_code f d s_comma = refl
+at_code f d s_aS = refl
+at_code f d s_tRUST = refl
 
 -- functions with the same values
 pub alike : {A : Type 0} (f g : Symbol → A) → map f symbols ≡ map g symbols → (X : Symbol) → f X ≡ g X
@@ -54,8 +54,8 @@ code-digit X =
     let most = alike (λ Y. leb (code Y) 17) (λ Y. true) refl X in
     (leb-true 1 (code X) least, leb-true (code X) 17 most)
 
-pub bound-code : (X : Symbol) → isBound X ≡ eqb (code X) 7
-bound-code = alike isBound (λ X. eqb (code X) 7) refl
+pub bound-code : (X : Symbol) → is_bound X ≡ eqb (code X) 7
+bound-code = alike is_bound (λ X. eqb (code X) 7) refl
 
 -- ---- productions
 
@@ -89,9 +89,9 @@ entries-alike :
 entries-alike f g h X m = map_at f g (marks X) (alike (λ Y. map f (marks Y)) (λ Y. map g (marks Y)) h X) m
 
 -- one is that of its first byte
-pub entry-word : (X : Symbol) {e : Entry} → Memᴰ e (marks X) → e.0 ≡ fixedToken (get_or e.0 0 0)
+pub entry-word : (X : Symbol) {e : Entry} → Memᴰ e (marks X) → e.0 ≡ fixed_token (get_or e.0 0 0)
 unfolding ascii
-entry-word X m = entries-alike (λ e. e.0) (λ e. fixedToken (get_or e.0 0 0)) refl X m
+entry-word X m = entries-alike (λ e. e.0) (λ e. fixed_token (get_or e.0 0 0)) refl X m
 
 -- and its production is short
 pub entry-few : (X : Symbol) {e : Entry} → Memᴰ e (marks X) → length e.1 ≤ 1 + 2 * length e.0

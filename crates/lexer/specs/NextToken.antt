@@ -1,11 +1,11 @@
--- The next token of a text for a symbol of the automaton (`nextToken`): by its first byte a variable, a bound below 0, another number or a
+-- The next token of a text for a symbol of the automaton (`next_token`): by its first byte a variable, a bound below 0, another number or a
 -- fixed token. The bytes '?', '-' and '0' are 63, 45 and 48; the words of numbers are counted from 256, 2097152 and 4194304 (words' Words).
 -- Assumes nothing.
 use Rattle.std.specs.Prelude.{Bool, true, cond, ◌&&◌, not, List, ℕ, ◌+◌, eqb, ltb, length, drop, get_or}
-use Rattle.grammar.specs.Tokens.{isCapital}
-use Rattle.grammar.specs.Automaton.{Symbol, isBound, digit}
-use Rattle.scanner.specs.Scans.{skipFrom, numeralFrom}
-use Rattle.scanner.specs.Fixed.{fixedToken, compared}
+use Rattle.grammar.specs.Tokens.{is_capital}
+use Rattle.grammar.specs.Automaton.{Symbol, is_bound, digit}
+use Rattle.scanner.specs.Scans.{skip_from, numeral_from}
+use Rattle.scanner.specs.Fixed.{fixed_token, compared}
 use Rattle.scanner.specs.declared.Digits.{Digits}
 use Rattle.scanner.specs.declared.Digits.TheVariants as D
 use Rattle.scanner.specs.declared.Literal.{Literal}
@@ -19,68 +19,68 @@ use Rattle.lexer.specs.declared.Step.TheVariants as S
 -- ---- numbers
 
 -- a number as a token; where it is missing, the fault is at the place where it should begin
-abbrev pub numberToken : ℕ → ℕ → ℕ → Digits → Step
-numberToken kind production at (D.Value value next) =
+abbrev pub number_token : ℕ → ℕ → ℕ → Digits → Step
+number_token kind production at (D.Value value next) =
     S.Token (record { word = kind + value; next = next; tight = true; production = production })
-numberToken kind production at D.Missing = S.Fault at
+number_token kind production at D.Missing = S.Fault at
 
 -- the number from l to u that begins at a place
 abbrev pub number_at : ℕ → ℕ → ℕ → ℕ → List ℕ → ℕ → Step
-number_at l u kind production s at = numberToken kind production at (numeralFrom l u at (drop at s))
+number_at l u kind production s at = number_token kind production at (numeral_from l u at (drop at s))
 
 -- ---- fixed tokens
 
 -- one with the first byte b, of which so much stands at a place
-abbrev pub wordToken : ℕ → ℕ → ℕ → Literal → Step
-wordToken b production at (L.Whole n) = S.Token (record { word = b; next = at + n; tight = isCapital b; production = production })
-wordToken b production at (L.Part n) = S.Fault (at + n)
+abbrev pub word_token : ℕ → ℕ → ℕ → Literal → Step
+word_token b production at (L.Whole n) = S.Token (record { word = b; next = at + n; tight = is_capital b; production = production })
+word_token b production at (L.Part n) = S.Fault (at + n)
 
 -- the one that begins at a place
 abbrev pub word_at : ℕ → List ℕ → ℕ → Step
-word_at production s at = wordToken (get_or s at 0) production at (compared (fixedToken (get_or s at 0)) (drop at s))
+word_at production s at = word_token (get_or s at 0) production at (compared (fixed_token (get_or s at 0)) (drop at s))
 
 -- ---- by the first byte
 
 -- a token where one is allowed, by what has to come after it
-abbrev pub whenAllowed : ℕ → (ℕ → Step) → Follow → Step
-whenAllowed at token F.Nothing = S.Fault at
-whenAllowed at token (F.With production) = token production
+abbrev pub when_allowed : ℕ → (ℕ → Step) → Follow → Step
+when_allowed at token F.Nothing = S.Fault at
+when_allowed at token (F.With production) = token production
 
 -- a variable
-abbrev pub variableAt : Symbol → List ℕ → ℕ → Step
-variableAt X s at = whenAllowed at (λ p. number_at 0 15 256 p s (at + 1)) (follows X 63)
+abbrev pub variable_at : Symbol → List ℕ → ℕ → Step
+variable_at X s at = when_allowed at (λ p. number_at 0 15 256 p s (at + 1)) (follows X 63)
 
 -- a bound below 0; no number follows a word, number or variable directly
-abbrev pub negativeAt : Symbol → Bool → List ℕ → ℕ → Step
-negativeAt X tight s at = cond (isBound X && not tight) (number_at 1 1000 4194304 0 s (at + 1)) (S.Fault at)
+abbrev pub negative_at : Symbol → Bool → List ℕ → ℕ → Step
+negative_at X tight s at = cond (is_bound X && not tight) (number_at 1 1000 4194304 0 s (at + 1)) (S.Fault at)
 
 -- another bound, or a term
-abbrev pub positiveAt : Symbol → Bool → List ℕ → ℕ → Step
-positiveAt X tight s at =
+abbrev pub positive_at : Symbol → Bool → List ℕ → ℕ → Step
+positive_at X tight s at =
     cond tight (S.Fault at)
-    (cond (isBound X) (number_at 0 1000 2097152 0 s at) (whenAllowed at (λ p. number_at 1 1048575 2097152 p s at) (follows X 48)))
+    (cond (is_bound X) (number_at 0 1000 2097152 0 s at) (when_allowed at (λ p. number_at 1 1048575 2097152 p s at) (follows X 48)))
 
 -- a fixed token; no keyword follows a word, number or variable directly
-abbrev pub wordApart : Bool → List ℕ → ℕ → ℕ → Step
-wordApart tight s at production = cond (tight && isCapital (get_or s at 0)) (S.Fault at) (word_at production s at)
+abbrev pub word_apart : Bool → List ℕ → ℕ → ℕ → Step
+word_apart tight s at production = cond (tight && is_capital (get_or s at 0)) (S.Fault at) (word_at production s at)
 
 -- where one is allowed
 abbrev pub fixed_at : Symbol → Bool → List ℕ → ℕ → Step
-fixed_at X tight s at = whenAllowed at (wordApart tight s at) (follows X (get_or s at 0))
+fixed_at X tight s at = when_allowed at (word_apart tight s at) (follows X (get_or s at 0))
 
 -- the token that begins at a place
-unfoldable pub tokenAt : Symbol → Bool → List ℕ → ℕ → Step
-tokenAt X tight s at =
-    cond (eqb (get_or s at 0) 63) (variableAt X s at)
-    (cond (eqb (get_or s at 0) 45) (negativeAt X tight s at)
-    (cond (digit (get_or s at 0)) (positiveAt X tight s at) (fixed_at X tight s at)))
+unfoldable pub token_at : Symbol → Bool → List ℕ → ℕ → Step
+token_at X tight s at =
+    cond (eqb (get_or s at 0) 63) (variable_at X s at)
+    (cond (eqb (get_or s at 0) 45) (negative_at X tight s at)
+    (cond (digit (get_or s at 0)) (positive_at X tight s at) (fixed_at X tight s at)))
 
 -- ---- behind white space
 
 -- the token that begins at i, with white space before it from `at` on
-abbrev pub tokenBehind : Symbol → Bool → List ℕ → ℕ → ℕ → Step
-tokenBehind X tight s at i = cond (ltb i (length s)) (tokenAt X (tight && eqb at i) s i) (S.Fault i)
+abbrev pub token_behind : Symbol → Bool → List ℕ → ℕ → ℕ → Step
+token_behind X tight s at i = cond (ltb i (length s)) (token_at X (tight && eqb at i) s i) (S.Fault i)
 
 -- the next token from a place on
-unfoldable pub nextToken : Symbol → Bool → List ℕ → ℕ → Step
-nextToken X tight s at = tokenBehind X tight s at (skipFrom at (drop at s))
+unfoldable pub next_token : Symbol → Bool → List ℕ → ℕ → Step
+next_token X tight s at = token_behind X tight s at (skip_from at (drop at s))

@@ -12,19 +12,19 @@ abbrev pub covering : Rule → ℕ → ℕ → Bool
 covering rule symbol first = leb rule.0 symbol && (leb symbol rule.1 && eqb first rule.2)
 
 -- what has to come after the fixed token of an entry
-abbrev pub productionOf : Option Entry → Option (List Symbol)
-productionOf none = none
-productionOf (some e) = some e.1
+abbrev pub production_of : Option Entry → Option (List Symbol)
+production_of none = none
+production_of (some e) = some e.1
 
 -- what has to come after a token with this first byte; a term goes by the digit 0
 abbrev pub allows : Symbol → ℕ → Option (List Symbol)
-allows X first = cond (eqb first 63) (vars X) (cond (eqb first 48) (terms X) (productionOf (find first (marks X))))
+allows X first = cond (eqb first 63) (vars X) (cond (eqb first 48) (terms X) (production_of (find first (marks X))))
 
 -- the same as an answer
-abbrev pub followOf : Option (List Symbol) → Follow
-followOf none = F.Nothing
-followOf (some α) = F.With (packed α)
+abbrev pub follow_of : Option (List Symbol) → Follow
+follow_of none = F.Nothing
+follow_of (some α) = F.With (packed α)
 
 -- of a symbol
 abbrev pub follows : Symbol → ℕ → Follow
-follows X first = followOf (allows X first)
+follows X first = follow_of (allows X first)

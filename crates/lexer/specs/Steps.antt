@@ -3,7 +3,7 @@ use Rattle.std.specs.Prelude.{◌≡◌, List, ◌++◌, map, ℕ, ◌+◌, ◌�
 use Rattle.grammar.specs.Tokens.{Token}
 use Rattle.grammar.specs.Automaton.{Symbol, accepted, fault, read}
 use Rattle.lexer.specs.Symbols.{packed}
-use Rattle.words.specs.Words.{tokenWord}
+use Rattle.words.specs.Words.{token_word}
 use Rattle.lexer.specs.Stacks.{Stacked}
 use Rattle.lexer.specs.declared.Step.{Step}
 use Rattle.lexer.specs.declared.Step.TheVariants as S
@@ -16,11 +16,11 @@ Pushes stack stack' depth production r =
     (α σ : List Symbol) → production ≡ packed α → Stacked stack depth σ → depth + length α ≤ length stack → Stacked stack' r (α ++ σ)
 
 -- the fault of a step; a token counts as one behind it
-abbrev pub faultIn : Step → Scanned
-faultIn (S.Token l) = R.Fault l.next
-faultIn (S.Fault place) = R.Fault place
+abbrev pub fault_in : Step → Scanned
+fault_in (S.Token l) = R.Fault l.next
+fault_in (S.Fault place) = R.Fault place
 
 -- the words of the text's tokens from the front, or the place of its fault
 abbrev pub Scans : List ℕ → List ℕ → Scanned → Type 0
-Scans s words (R.Tokens count) = (ts : List Token) × (read s ≡ accepted ts) × (take count words ≡ map tokenWord ts) × (count ≡ length ts)
+Scans s words (R.Tokens count) = (ts : List Token) × (read s ≡ accepted ts) × (take count words ≡ map token_word ts) × (count ≡ length ts)
 Scans s words (R.Fault place) = read s ≡ fault place

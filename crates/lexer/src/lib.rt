@@ -1,10 +1,10 @@
 // The tokens of a query text, or the place of its fault: the automaton's stack is an array of bytes, and each turn reads one token.
 ghost use Rattle.std.specs.Prelude.{false, ◌&&◌, ◌≡◌, ◌+◌, ◌*◌, ◌≤◌, ◌<◌, length};
-ghost use Rattle.grammar.specs.Tokens.{isCapital};
+ghost use Rattle.grammar.specs.Tokens.{is_capital};
 ghost use Rattle.lexer.specs.Symbols.{Gives};
 ghost use Rattle.lexer.specs.Rules.{covering, follows};
-ghost use Rattle.lexer.specs.Steps.{Pushes, faultIn, Scans};
-ghost use Rattle.lexer.specs.NextToken.{number_at, word_at, variableAt, negativeAt, positiveAt, fixed_at, tokenAt, nextToken};
+ghost use Rattle.lexer.specs.Steps.{Pushes, fault_in, Scans};
+ghost use Rattle.lexer.specs.NextToken.{number_at, word_at, variable_at, negative_at, positive_at, fixed_at, token_at, next_token};
 
 use scanner::{Digits, Literal, capital, fixed_token, numeral, skip};
 use words::{FIRST_NEGATIVE, FIRST_NUMBER, FIRST_VARIABLE};
@@ -141,7 +141,7 @@ fn allowed(symbol: u8, first: u8) -> Follow
 
 // A word may not follow a word, number or variable directly.
 fn clings(tight: bool, b: u8) -> bool
-    ensures { result ≡ (tight && isCapital b) }
+    ensures { result ≡ (tight && is_capital b) }
 {
     if tight {
         return capital(b);
@@ -197,7 +197,7 @@ fn numeric(s: &[u8], at: usize, least: u32, most: u32, kind: u32, production: u6
 // A token that begins with a question mark.
 fn variable(s: &[u8], at: usize, symbol: u8) -> Step
     requires { at < length s.now }
-    ensures { Gives symbol (λ X. variableAt X s.now at) result }
+    ensures { Gives symbol (λ X. variable_at X s.now at) result }
 {
     let f = allowed(symbol, b'?');
     let Follow::With(p) = f else {
@@ -209,7 +209,7 @@ fn variable(s: &[u8], at: usize, symbol: u8) -> Step
 // A token that begins with a minus sign.
 fn negative(s: &[u8], at: usize, tight: bool, symbol: u8) -> Step
     requires { at < length s.now }
-    ensures { Gives symbol (λ X. negativeAt X tight s.now at) result }
+    ensures { Gives symbol (λ X. negative_at X tight s.now at) result }
 {
     if tight {
         return Step::Fault(at);
@@ -223,7 +223,7 @@ fn negative(s: &[u8], at: usize, tight: bool, symbol: u8) -> Step
 // A token that begins with a digit.
 fn positive(s: &[u8], at: usize, tight: bool, symbol: u8) -> Step
     requires { at < length s.now }
-    ensures { Gives symbol (λ X. positiveAt X tight s.now at) result }
+    ensures { Gives symbol (λ X. positive_at X tight s.now at) result }
 {
     if tight {
         return Step::Fault(at);
@@ -277,7 +277,7 @@ fn fixed(s: &[u8], at: usize, tight: bool, symbol: u8) -> Step
 // The token whose first byte stands at a place.
 fn begin(s: &[u8], at: usize, tight: bool, symbol: u8) -> Step
     requires { at < length s.now }
-    ensures { Gives symbol (λ X. tokenAt X tight s.now at) result }
+    ensures { Gives symbol (λ X. token_at X tight s.now at) result }
 {
     let b = s[at];
     if b == b'?' {
@@ -298,7 +298,7 @@ fn begin(s: &[u8], at: usize, tight: bool, symbol: u8) -> Step
 // The next token, which the symbol on top allows.
 fn advance(s: &[u8], at: usize, tight: bool, symbol: u8) -> Step
     requires { at ≤ length s.now }
-    ensures { Gives symbol (λ X. nextToken X tight s.now at) result }
+    ensures { Gives symbol (λ X. next_token X tight s.now at) result }
 {
     let i = skip(s, at);
     if s.len() <= i {
@@ -359,7 +359,7 @@ pub fn scan(s: &[u8], words: &mut [u32], stack: &mut [u8]) -> Scanned
 
 // The fault of a step.
 fn fault_of(r: Step) -> Scanned
-    ensures { result ≡ faultIn r }
+    ensures { result ≡ fault_in r }
 {
     match r {
         Step::Token(l) => Scanned::Fault(l.next),

@@ -11,24 +11,24 @@ use lib.ListN.{length, drop, get_or, length-append, length-drop, length-map}
 use borrow.Author.Tests.{eqb-true, ne_eqb}
 use Rattle.tsparql.specs.Strikes.{ascii}
 use Rattle.tsparql.specs.Query as Q
-use Rattle.tsparql.specs.Query.{Node, Pattern, patternSet, leftJoin, union}
-use Rattle.tsparql.specs.Writing.{nodeBytes, conditionBytes}
+use Rattle.tsparql.specs.Query.{Node, Pattern, pattern_set, left_join, union}
+use Rattle.tsparql.specs.Writing.{node_bytes, condition_bytes}
 use Rattle.grammar.specs.Tokens.{Token}
 use Rattle.grammar.specs.Grammar as Gr
-use Rattle.grammar.specs.Grammar.{Body, bodyTokens, Unions, unionsTokens}
-use Rattle.grammar.specs.Meaning.{Item, aGroup, isEmptySet, joined, gathered, items, united, filters, condition, unfiltered, groupNode}
-use Rattle.grammar.specs.Meaning.{optionalItem}
+use Rattle.grammar.specs.Grammar.{Body, body_tokens, Unions, unions_tokens}
+use Rattle.grammar.specs.Meaning.{Item, a_group, is_empty_set, joined, gathered, items, united, filters, condition, unfiltered, group_node}
+use Rattle.grammar.specs.Meaning.{optional_item}
 use Rattle.grammar.proofs.Sizes.{tree-size, group-size, optional-size}
 use Rattle.blocks.specs.Blocks.{Holds, Puts, Exchanges}
-use Rattle.words.specs.Words.{words, tokenWord}
+use Rattle.words.specs.Words.{words, token_word}
 use Rattle.words.proofs.WordLaws.{word_first, words-on}
 use Rattle.clauses.specs.declared.Block.{Block}
 use Rattle.groups.specs.Items.{Items, Follows}
 use Rattle.groups.specs.Passes.{Filters, Splits}
 use Rattle.groups.specs.declared.Halves.{Halves}
-use Rattle.groups.proofs.Fronts.{kGroup, kOptional, View, atGroup, atOptional, items-walks, items-first, first_word, view-at}
-use Rattle.parser.specs.Sets.{pendingBytes, unionWith, Unites, Joins}
-use Rattle.parser.specs.Stages.{Coming, bodyPlace, Stands, Gathers, Closes}
+use Rattle.groups.proofs.Fronts.{k_group, k_optional, View, at_group, at_optional, items-walks, items-first, first_word, view-at}
+use Rattle.parser.specs.Sets.{pending_bytes, union_with, Unites, Joins}
+use Rattle.parser.specs.Stages.{Coming, body_place, Stands, Gathers, Closes}
 use Rattle.parser.specs.declared.Stage.{Stage}
 use Rattle.parser.proofs.SetLaws.{joined-empty}
 use Rattle.parser.proofs.StageLaws.{follows-longer, none-waits, stage-inside, stage-items, stage-holds}
@@ -41,12 +41,12 @@ record Opening (t : List ℕ) (rest : List Token) (a : ℕ) (p : Option Node) (i
   unions : Unions
   tail : List Token
   later : List Item
-  written : drop a t ≡ words (bodyTokens inner (unionsTokens unions tail))
-  means : is ≡ aGroup (united (unionWith p (groupNode (items inner))) unions) ∷ later
+  written : drop a t ≡ words (body_tokens inner (unions_tokens unions tail))
+  means : is ≡ a_group (united (union_with p (group_node (items inner))) unions) ∷ later
   follows : Follows tail later rest
 
 -- a word that begins a group, and is neither OPTIONAL nor UNION, is '{'
-group-word : (w i : ℕ) → i < bodyPlace w i → (w ≡ 79 → ⊥) → (w ≡ 85 → ⊥) → w ≡ 123
+group-word : (w i : ℕ) → i < body_place w i → (w ≡ 79 → ⊥) → (w ≡ 85 → ⊥) → w ≡ 123
 group-word w i h n m = go (eqb w 123) refl
   where
     go : (b : Bool) → eqb w 123 ≡ b → w ≡ 123
@@ -54,7 +54,7 @@ group-word w i h n m = go (eqb w 123) refl
     go false e = let z : i < i = rw (e, ne_eqb w 79 n, ne_eqb w 85 m) at h in absurd (omega arith)
 
 opening :
-    (t : List ℕ) (rest : List Token) (i a : ℕ) (p : Option Node) (is : List Item) → i < a → a ≡ bodyPlace (get_or t i 0) i
+    (t : List ℕ) (rest : List Token) (i a : ℕ) (p : Option Node) (is : List Item) → i < a → a ≡ body_place (get_or t i 0) i
     → (get_or t i 0 ≡ 79 → ⊥) → Coming p (drop i t) is rest → Opening t rest a p is
 opening t rest i a (some u) is h e n c =
     let place : a ≡ i + 2 = e ∙ rw (word_first t _ i _ c.written) in
@@ -73,8 +73,8 @@ opening t rest i a none is h e n c =
     let place : a ≡ i + 1 = e ∙ rw first in
     go place (view-at t i 123 is rest first (items-walks c))
   where
-    go : a ≡ i + 1 → View (drop i t) is rest kGroup → Opening t rest a none is
-    go place (atGroup g us ts later q m f) =
+    go : a ≡ i + 1 → View (drop i t) is rest k_group → Opening t rest a none is
+    go place (at_group g us ts later q m f) =
         record {
           inner = g;
           unions = us;
@@ -87,23 +87,23 @@ opening t rest i a none is h e n c =
 
 -- ---- sizes
 
-unions-longer : (us : Unions) (ts : List Token) → length ts ≤ length (unionsTokens us ts)
+unions-longer : (us : Unions) (ts : List Token) → length ts ≤ length (unions_tokens us ts)
 unions-longer Gr.none ts = omega arith
-unions-longer (Gr.andUnion g us) ts = let h = unions-longer us ts in omega (arith, tree-size g (unionsTokens us ts))
+unions-longer (Gr.and_union g us) ts = let h = unions-longer us ts in omega (arith, tree-size g (unions_tokens us ts))
 
-unionWith-size : (p : Option Node) (x : Node) → length (nodeBytes (unionWith p x)) ≤ 1 + length (pendingBytes p) + length (nodeBytes x)
-unfolding nodeBytes
-unionWith-size none x = omega arith
-unionWith-size (some u) x = omega (arith, length-append (nodeBytes u) (nodeBytes x))
+union_with-size : (p : Option Node) (x : Node) → length (node_bytes (union_with p x)) ≤ 1 + length (pending_bytes p) + length (node_bytes x)
+unfolding node_bytes
+union_with-size none x = omega arith
+union_with-size (some u) x = omega (arith, length-append (node_bytes u) (node_bytes x))
 
-joined-size : (x y : Node) → length (nodeBytes (joined x y)) ≤ 1 + length (nodeBytes x) + length (nodeBytes y)
-unfolding nodeBytes
-joined-size x y = go (isEmptySet x) (isEmptySet y)
+joined-size : (x y : Node) → length (node_bytes (joined x y)) ≤ 1 + length (node_bytes x) + length (node_bytes y)
+unfolding node_bytes
+joined-size x y = go (is_empty_set x) (is_empty_set y)
   where
-    go : (b c : Bool) → length (nodeBytes (cond b y (cond c x (Q.join x y)))) ≤ 1 + length (nodeBytes x) + length (nodeBytes y)
+    go : (b c : Bool) → length (node_bytes (cond b y (cond c x (Q.join x y)))) ≤ 1 + length (node_bytes x) + length (node_bytes y)
     go true c = omega arith
     go false true = omega arith
-    go false false = omega (arith, length-append (nodeBytes x) (nodeBytes y))
+    go false false = omega (arith, length-append (node_bytes x) (node_bytes y))
 
 -- ---- united with what waits
 
@@ -113,34 +113,34 @@ record United (t : List ℕ) (rest : List Token) (pre out : List ℕ) (x : Node)
   unions : Unions
   tail : List Token
   later : List Item
-  written : drop j t ≡ words (unionsTokens unions tail)
-  means : is ≡ aGroup (united operand unions) ∷ later
+  written : drop j t ≡ words (unions_tokens unions tail)
+  means : is ≡ a_group (united operand unions) ∷ later
   follows : Follows tail later rest
-  holds : Holds out ((pre ++ nodeBytes x) ++ nodeBytes operand) n
-  room : n + 1 + 4 * length (unionsTokens unions tail) ≤ length out + 4 * length rest + 1
+  holds : Holds out ((pre ++ node_bytes x) ++ node_bytes operand) n
+  room : n + 1 + 4 * length (unions_tokens unions tail) ≤ length out + 4 * length rest + 1
 
 module _ (t : List ℕ) (rest : List Token) (pre out₀ : List ℕ) (final : Node) (from a : ℕ) (g : Stage) (b : Block)
     (s : Stands t rest final from pre out₀ g) where
   close-united :
-      (out out₁ out₂ : List ℕ) (n n₂ : ℕ) → g.next < a → a ≡ bodyPlace (get_or t g.next 0) g.next → (get_or t g.next 0 ≡ 79 → ⊥)
+      (out out₁ out₂ : List ℕ) (n n₂ : ℕ) → g.next < a → a ≡ body_place (get_or t g.next 0) g.next → (get_or t g.next 0 ≡ 79 → ⊥)
       → length out ≡ length out₀ → length out₁ ≡ length out → length out₂ ≡ length out₁ → Gathers t a g.len out₀ out b
       → Filters t a g.len out out₁ b.len n → Unites out₁ out₂ g.mid g.len n n₂
-      → United t rest pre out₂ (joined s.left (patternSet s.run)) s.items b.next n₂
+      → United t rest pre out₂ (joined s.left (pattern_set s.run)) s.items b.next n₂
   close-united out out₁ out₂ n n₂ less place w same₀ same₁ same₂ gather filter unite =
       let p = s.pending in
-      let x = joined s.left (patternSet s.run) in
-      let J = nodeBytes x in
-      let P = pendingBytes p in
+      let x = joined s.left (pattern_set s.run) in
+      let J = node_bytes x in
+      let P = pending_bytes p in
       let o = opening t rest g.next a p s.items less place w s.coming in
-      let us = unionsTokens o.unions o.tail in
-      let G = groupNode (items o.inner) in
-      let Z = unionWith p G in
+      let us = unions_tokens o.unions o.tail in
+      let G = group_node (items o.inner) in
+      let Z = union_with p G in
       let room = s.room in
       let middle = s.middle in
       let size = s.holds.size in
       let inside = stage-inside t rest final from pre out₀ g s in
       let words₁ = ap length o.written in
-      let words₂ = length-map (bodyTokens o.inner us) tokenWord in
+      let words₂ = length-map (body_tokens o.inner us) token_word in
       let words₃ = length-drop g.next t in
       let words₄ = length-drop a t in
       let tree = tree-size o.inner us in
@@ -152,14 +152,14 @@ module _ (t : List ℕ) (rest : List Token) (pre out₀ : List ℕ) (final : Nod
       let h = gather o.inner us (pre ++ (J ++ P)) o.written s.holds (omega arith) in
       let h₁ = filter o.inner us (pre ++ (J ++ P)) o.written size h.1 (omega arith) in
       let size₁ = h₁.size in
-      let wide₃ = length-append (pre ++ (J ++ P)) (nodeBytes G) in
-      let flat : (pre ++ (J ++ P)) ++ nodeBytes G ≡ (pre ++ J) ++ (P ++ nodeBytes G) =
-      ap (λ (l : List ℕ). l ++ nodeBytes G) (sym (append_assoc pre J P)) ∙ append_assoc (pre ++ J) P (nodeBytes G) in
+      let wide₃ = length-append (pre ++ (J ++ P)) (node_bytes G) in
+      let flat : (pre ++ (J ++ P)) ++ node_bytes G ≡ (pre ++ J) ++ (P ++ node_bytes G) =
+      ap (λ (l : List ℕ). l ++ node_bytes G) (sym (append_assoc pre J P)) ∙ append_assoc (pre ++ J) P (node_bytes G) in
       let wide₄ = length-append pre J in
       let h₂ = unite (pre ++ J) p G (omega arith) (omega arith) (subst (λ (l : List ℕ). Holds out₁ l n) flat h₁) (omega arith) in
       let size₂ = h₂.size in
-      let wide₅ = length-append (pre ++ J) (nodeBytes Z) in
-      let most = unionWith-size p G in
+      let wide₅ = length-append (pre ++ J) (node_bytes Z) in
+      let most = union_with-size p G in
       record {
         operand = Z;
         unions = o.unions;
@@ -176,7 +176,7 @@ module _ (t : List ℕ) (rest : List Token) (pre out₀ : List ℕ) (final : Nod
 
 gathered-group :
     (x : Node) (run : List Pattern) (n : Node) (later : List Item)
-    → gathered (joined (joined x (patternSet run)) n) [] later ≡ gathered x run (aGroup n ∷ later)
+    → gathered (joined (joined x (pattern_set run)) n) [] later ≡ gathered x run (a_group n ∷ later)
 unfolding gathered
 gathered-group x run n later = refl
 
@@ -195,23 +195,23 @@ close-join t out out₁ out₂ out₃ a from n n₂ n₃ g b w y same₁ same₂
     go c c.unions refl
   where
     x : Node
-    x = joined s.left (patternSet s.run)
+    x = joined s.left (pattern_set s.run)
 
     go : (c : United t rest pre out₂ x s.items b.next n₂) (us : Unions) → c.unions ≡ us
         → Stands t rest final from pre out₃ (record { next = b.next; mid = n₃; len = n₃; run = 0 })
-    go c (Gr.andUnion h us) e =
-        absurd (y (word_first t _ b.next _ (c.written ∙ ap (λ (v : Unions). words (unionsTokens v c.tail)) e)))
+    go c (Gr.and_union h us) e =
+        absurd (y (word_first t _ b.next _ (c.written ∙ ap (λ (v : Unions). words (unions_tokens v c.tail)) e)))
     go c Gr.none e =
         let z = c.operand in
-        let N = nodeBytes (joined x z) in
-        let written : drop b.next t ≡ words c.tail = c.written ∙ ap (λ (v : Unions). words (unionsTokens v c.tail)) e in
-        let means : s.items ≡ aGroup z ∷ c.later =
-        c.means ∙ ap (λ (v : Unions). aGroup (united z v) ∷ c.later) e ∙ ap (λ (m : Node). aGroup m ∷ c.later) (united-none z) in
+        let N = node_bytes (joined x z) in
+        let written : drop b.next t ≡ words c.tail = c.written ∙ ap (λ (v : Unions). words (unions_tokens v c.tail)) e in
+        let means : s.items ≡ a_group z ∷ c.later =
+        c.means ∙ ap (λ (v : Unions). a_group (united z v) ∷ c.later) e ∙ ap (λ (m : Node). a_group m ∷ c.later) (united-none z) in
         let room = c.room in
         let size = c.holds.size in
         let longer = unions-longer c.unions c.tail in
         let follow = follows-longer _ _ _ c.follows in
-        let held = subst (λ (l : List ℕ). Holds out₂ l n₂) (append_assoc pre (nodeBytes x) (nodeBytes z)) c.holds in
+        let held = subst (λ (l : List ℕ). Holds out₂ l n₂) (append_assoc pre (node_bytes x) (node_bytes z)) c.holds in
         let h = join pre x z s.start s.middle held (omega arith) in
         let size₃ = h.size in
         let most = joined-size x z in
@@ -228,17 +228,17 @@ close-join t out out₁ out₂ out₃ a from n n₂ n₃ g b w y same₁ same₂
               ∙ sym (ap (λ (is : List Item). gathered s.left s.run is) means)
               ∙ s.yields;
           closed = tt;
-          holds = none-waits out₃ pre _ n₃ (subst (λ (m : Node). Holds out₃ (pre ++ nodeBytes m) n₃) (sym same) h);
-          middle = size₃ ∙ length-append pre N ∙ ap (λ (m : Node). length pre + length (nodeBytes m)) (sym same);
+          holds = none-waits out₃ pre _ n₃ (subst (λ (m : Node). Holds out₃ (pre ++ node_bytes m) n₃) (sym same) h);
+          middle = size₃ ∙ length-append pre N ∙ ap (λ (m : Node). length pre + length (node_bytes m)) (sym same);
           count = refl;
           few = omega arith;
           room = omega (
             arith,
             ap length written,
-            length-map c.tail tokenWord,
+            length-map c.tail token_word,
             length-append pre N,
-            length-append (pre ++ nodeBytes x) (nodeBytes z),
-            length-append pre (nodeBytes x),
+            length-append (pre ++ node_bytes x) (node_bytes z),
+            length-append pre (node_bytes x),
           );
         }
 
@@ -254,24 +254,24 @@ close-union t out out₁ out₂ a from n n₂ g b w y same₁ same₂ filter uni
     go c c.unions refl
   where
     x : Node
-    x = joined s.left (patternSet s.run)
+    x = joined s.left (pattern_set s.run)
 
     go : (c : United t rest pre out₂ x s.items b.next n₂) (us : Unions) → c.unions ≡ us
         → Stands t rest final from pre out₂ (record { next = b.next; mid = g.mid; len = n₂; run = 0 })
     go c Gr.none e =
-        let written : drop b.next t ≡ words c.tail = c.written ∙ ap (λ (v : Unions). words (unionsTokens v c.tail)) e in
+        let written : drop b.next t ≡ words c.tail = c.written ∙ ap (λ (v : Unions). words (unions_tokens v c.tail)) e in
         let its : Items (drop b.next t) c.later rest = record { tail = c.tail; written = written; follows = c.follows } in
         absurd (items-first _ c.later rest its (first_word t b.next ∙ y))
-    go c (Gr.andUnion h us) e =
+    go c (Gr.and_union h us) e =
         let z = c.operand in
-        let further = bodyTokens h (unionsTokens us c.tail) in
+        let further = body_tokens h (unions_tokens us c.tail) in
         let written : drop b.next t ≡ 85 ∷ 123 ∷ words further =
-        c.written ∙ ap (λ (v : Unions). words (unionsTokens v c.tail)) e in
-        let means : s.items ≡ aGroup (united (union z (groupNode (items h))) us) ∷ c.later =
-        c.means ∙ ap (λ (v : Unions). aGroup (united z v) ∷ c.later) e in
+        c.written ∙ ap (λ (v : Unions). words (unions_tokens v c.tail)) e in
+        let means : s.items ≡ a_group (united (union z (group_node (items h))) us) ∷ c.later =
+        c.means ∙ ap (λ (v : Unions). a_group (united z v) ∷ c.later) e in
         let room = c.room in
         let same = joined-empty x in
-        let held = subst (λ (l : List ℕ). Holds out₂ l n₂) (append_assoc pre (nodeBytes x) (nodeBytes z)) c.holds in
+        let held = subst (λ (l : List ℕ). Holds out₂ l n₂) (append_assoc pre (node_bytes x) (node_bytes z)) c.holds in
         record {
           start = s.start;
           left = x;
@@ -282,15 +282,15 @@ close-union t out out₁ out₂ a from n n₂ g b w y same₁ same₂ filter uni
               record { inner = h; unions = us; tail = c.tail; later = c.later; written = written; means = means; follows = c.follows };
           yields =
               ap (λ (is : List Item). gathered x [] is) means
-              ∙ ap (λ (m : Node). gathered (joined m (united (union z (groupNode (items h))) us)) [] c.later) same
+              ∙ ap (λ (m : Node). gathered (joined m (united (union z (group_node (items h))) us)) [] c.later) same
               ∙ sym (ap (λ (is : List Item). gathered s.left s.run is) means)
               ∙ s.yields;
           closed = refl;
-          holds = subst (λ (m : Node). Holds out₂ (pre ++ (nodeBytes m ++ nodeBytes z)) n₂) (sym same) held;
-          middle = s.middle ∙ ap (λ (m : Node). length pre + length (nodeBytes m)) (sym same);
+          holds = subst (λ (m : Node). Holds out₂ (pre ++ (node_bytes m ++ node_bytes z)) n₂) (sym same) held;
+          middle = s.middle ∙ ap (λ (m : Node). length pre + length (node_bytes m)) (sym same);
           count = refl;
           few = omega arith;
-          room = omega (arith, ap length written, ap (λ (v : Unions). length (unionsTokens v c.tail)) e, length-map further tokenWord);
+          room = omega (arith, ap length written, ap (λ (v : Unions). length (unions_tokens v c.tail)) e, length-map further token_word);
         }
 
 -- ---- OPTIONAL
@@ -299,12 +299,12 @@ record Optional (t : List ℕ) (rest : List Token) (i : ℕ) (is : List Item) : 
   inner : Body true
   tail : List Token
   later : List Item
-  written : drop i t ≡ 79 ∷ 123 ∷ words (bodyTokens inner tail)
-  means : is ≡ optionalItem (items inner) ∷ later
+  written : drop i t ≡ 79 ∷ 123 ∷ words (body_tokens inner tail)
+  means : is ≡ optional_item (items inner) ∷ later
   follows : Follows tail later rest
 
-optional : (t : List ℕ) (rest : List Token) (i : ℕ) (is : List Item) → View (drop i t) is rest kOptional → Optional t rest i is
-optional t rest i is (atOptional g ts later e q f) =
+optional : (t : List ℕ) (rest : List Token) (i : ℕ) (is : List Item) → View (drop i t) is rest k_optional → Optional t rest i is
+optional t rest i is (at_optional g ts later e q f) =
     record { inner = g; tail = ts; later = later; written = e; means = q; follows = f }
 
 pub close-optional :
@@ -312,29 +312,29 @@ pub close-optional :
     → length out₁ ≡ length out → length out₂ ≡ length out₁ → length out₃ ≡ length out₂ → Splits t a g.len out out₁ b.len h
     → Exchanges out₁ out₂ from h.mid h.len → Puts out₂ out₃ from h.len 32 n
     → Closes t a from out out₃ g b (record { next = b.next; mid = n; len = n; run = 0 })
-unfolding gathered nodeBytes
+unfolding gathered node_bytes
 close-optional t out out₁ out₂ out₃ a from n h g b w same₁ same₂ same₃ split exchange put rest pre out₀ final less place same₀ s gather =
     let idle = stage-items t rest final from pre out₀ g s (λ c. omega arith) in
     let o = optional t rest g.next s.items (view-at t g.next 79 s.items rest w (items-walks idle.0)) in
     let held = stage-holds t rest final from pre out₀ g s idle.1 in
     let is = items o.inner in
-    let x = joined s.left (patternSet s.run) in
-    let J = nodeBytes x in
-    let U = nodeBytes (unfiltered is) in
-    let C = conditionBytes (condition (filters is)) in
+    let x = joined s.left (pattern_set s.run) in
+    let J = node_bytes x in
+    let U = node_bytes (unfiltered is) in
+    let C = condition_bytes (condition (filters is)) in
     let start = s.start in
     let room = s.room in
     let size = held.size in
     let wide = length-append pre J in
     let words₁ = ap length o.written in
-    let words₂ = length-map (bodyTokens o.inner o.tail) tokenWord in
+    let words₂ = length-map (body_tokens o.inner o.tail) token_word in
     let tree = tree-size o.inner o.tail in
     let group = optional-size is in
     let follow = follows-longer _ _ _ o.follows in
     let behind : a ≡ g.next + 2 = place ∙ rw w in
-    let on : drop a t ≡ words (bodyTokens o.inner o.tail) = ap (λ (m : ℕ). drop m t) behind ∙ words-on t _ g.next 2 o.written in
+    let on : drop a t ≡ words (body_tokens o.inner o.tail) = ap (λ (m : ℕ). drop m t) behind ∙ words-on t _ g.next 2 o.written in
     let words₃ = ap length on in
-    let words₄ = length-map o.tail tokenWord in
+    let words₄ = length-map o.tail token_word in
     let r₁ = gather o.inner o.tail (pre ++ J) on held (omega arith) in
     let r₂ = split o.inner o.tail (pre ++ J) on size r₁.1 (omega arith) in
     let mid = r₂.0 in
@@ -350,7 +350,7 @@ close-optional t out out₁ out₂ out₃ a from n h g b w same₁ same₂ same�
     let wide₅ = length-append pre (32 ∷ (C ++ (J ++ U))) in
     record {
       start = start;
-      left = leftJoin (condition (filters is)) x (unfiltered is);
+      left = left_join (condition (filters is)) x (unfiltered is);
       run = [];
       pending = none;
       items = o.later;

@@ -8,8 +8,8 @@ use Prim.Native.Nat.{ℕ, ◌+◌, ◌*◌, ◌≤◌, ◌<◌}
 use native.Mathlib.Omega.{arith}
 use native.Mathlib.Nat.{le_refl}
 use lib.ListN.{length, drop, get_or, length-append}
-use Rattle.tsparql.specs.Query.{Node, patternSet}
-use Rattle.tsparql.specs.Writing.{nodeBytes}
+use Rattle.tsparql.specs.Query.{Node, pattern_set}
+use Rattle.tsparql.specs.Writing.{node_bytes}
 use Rattle.grammar.specs.Tokens.{Token}
 use Rattle.grammar.specs.Grammar.{Body}
 use Rattle.grammar.specs.Meaning.{Item, items, joined, gathered}
@@ -18,14 +18,14 @@ use Rattle.words.specs.Words.{words}
 use Rattle.words.proofs.WordLaws.{words-on}
 use Rattle.clauses.specs.declared.Block.{Block}
 use Rattle.groups.specs.Passes.{BodyAt}
-use Rattle.groups.proofs.Fronts.{kEnd, View, atEnd, items-walks, body-items, view-at}
-use Rattle.parser.specs.Stages.{bodyPlace, Stands, Gathers, Passes, Closes}
+use Rattle.groups.proofs.Fronts.{k_end, View, at_end, items-walks, body-items, view-at}
+use Rattle.parser.specs.Stages.{body_place, Stands, Gathers, Passes, Closes}
 use Rattle.parser.specs.declared.Stage.{Stage}
 use Rattle.parser.proofs.StageLaws.{items-longer, stage-inside, stage-items, stage-holds}
 
 -- what is joined in a body
-abbrev gatheredNode : Body true → Node
-gatheredNode b = gathered (patternSet []) [] (items b)
+abbrev gathered_node : Body true → Node
+gathered_node b = gathered (pattern_set []) [] (items b)
 
 -- ---- where it begins and ends
 
@@ -33,12 +33,12 @@ gatheredNode b = gathered (patternSet []) [] (items b)
 stage-first :
     (t pre out : List ℕ) (b : Body true) (rest : List Token) (at from n : ℕ) → from ≡ length pre → BodyAt t at b rest
     → Holds out (pre ++ (0 ∷ [])) n → n + 4 * length (drop at t) ≤ length out + 4 * length rest + 1
-    → Stands t rest (gatheredNode b) from pre out (record { next = at; mid = n; len = n; run = 0 })
-unfolding nodeBytes
+    → Stands t rest (gathered_node b) from pre out (record { next = at; mid = n; len = n; run = 0 })
+unfolding node_bytes
 stage-first t pre out b rest at from n f w h room =
     record {
       start = f;
-      left = patternSet [];
+      left = pattern_set [];
       run = [];
       pending = none;
       items = items b;
@@ -55,18 +55,18 @@ stage-first t pre out b rest at from n f w h room =
 -- at the closing brace
 stage-end :
     (t : List ℕ) (rest : List Token) (final : Node) (from : ℕ) (pre out : List ℕ) (g : Stage) → get_or t g.next 0 ≡ 125
-    → Stands t rest final from pre out g → (drop (g.next + 1) t ≡ words rest) × Holds out (pre ++ nodeBytes final) g.len
+    → Stands t rest final from pre out g → (drop (g.next + 1) t ≡ words rest) × Holds out (pre ++ node_bytes final) g.len
 unfolding gathered
 stage-end t rest final from pre out g w s =
     let idle = stage-items t rest final from pre out g s (λ c. omega arith) in
     go (stage-holds t rest final from pre out g s idle.1) (view-at t g.next 125 s.items rest w (items-walks idle.0))
   where
-    go : Holds out (pre ++ nodeBytes (joined s.left (patternSet s.run))) g.len → View (drop g.next t) s.items rest kEnd
-        → (drop (g.next + 1) t ≡ words rest) × Holds out (pre ++ nodeBytes final) g.len
-    go h (atEnd e q) =
-        let same : joined s.left (patternSet s.run) ≡ final =
+    go : Holds out (pre ++ node_bytes (joined s.left (pattern_set s.run))) g.len → View (drop g.next t) s.items rest k_end
+        → (drop (g.next + 1) t ≡ words rest) × Holds out (pre ++ node_bytes final) g.len
+    go h (at_end e q) =
+        let same : joined s.left (pattern_set s.run) ≡ final =
         sym (ap (λ (is : List Item). gathered s.left s.run is) q) ∙ s.yields in
-        (words-on t _ g.next 1 e, subst (λ (x : Node). Holds out (pre ++ nodeBytes x) g.len) same h)
+        (words-on t _ g.next 1 e, subst (λ (x : Node). Holds out (pre ++ node_bytes x) g.len) same h)
 
 -- ---- the loop
 
@@ -76,7 +76,7 @@ pub record Gathering (t : List ℕ) (at from n : ℕ) (out out' : List ℕ) (g :
   pub same : length out' ≡ length out
   pub stands :
       (b : Body true) (rest : List Token) (pre : List ℕ) → from ≡ length pre → BodyAt t at b rest → Holds out (pre ++ (0 ∷ [])) n
-      → n + 4 * length (drop at t) ≤ length out + 4 * length rest + 1 → Stands t rest (gatheredNode b) from pre out' g
+      → n + 4 * length (drop at t) ≤ length out + 4 * length rest + 1 → Stands t rest (gathered_node b) from pre out' g
 
 pub gathering-first : (t out : List ℕ) (at from n : ℕ) → Gathering t at from n out out (record { next = at; mid = n; len = n; run = 0 })
 gathering-first t out at from n =
@@ -87,7 +87,7 @@ module _ (t : List ℕ) (at from n : ℕ) where
   begun :
       (out out₁ out' : List ℕ) (g : Stage) → length out₁ ≡ length out → Appends out out₁ from (0 ∷ []) n → Gathering t at from n out₁ out' g
       → (b : Body true) (rest : List Token) (pre : List ℕ) → BodyAt t at b rest → Holds out pre from
-      → from + 4 * length (drop at t) ≤ length out + 4 * length rest → Stands t rest (gatheredNode b) from pre out' g
+      → from + 4 * length (drop at t) ≤ length out + 4 * length rest → Stands t rest (gathered_node b) from pre out' g
   begun out out₁ out' g s append w b rest pre p h room =
       let size = h.size in
       let long = items-longer _ _ _ (body-items t at b rest p) in
@@ -109,7 +109,7 @@ module _ (t : List ℕ) (at from n : ℕ) where
       stage-end _ _ _ _ _ _ g c (begun out out₁ out' g s append w b rest pre p h room)
 
   pub gathering-closes :
-      (out out₁ out₂ out₃ : List ℕ) (a : ℕ) (g r : Stage) (b : Block) → g.next < a → a ≡ bodyPlace (get_or t g.next 0) g.next
+      (out out₁ out₂ out₃ : List ℕ) (a : ℕ) (g r : Stage) (b : Block) → g.next < a → a ≡ body_place (get_or t g.next 0) g.next
       → Gathering t at from n out out₁ g → (a ≤ b.next) × Gathers t a g.len out₁ out₂ b → length out₂ ≡ length out₁
       → (b.next ≤ r.next) × Closes t a from out₂ out₃ g b r → length out₃ ≡ length out₂ → Gathering t at from n out out₃ r
   gathering-closes out out₁ out₂ out₃ a g r b less place s gather same close same₂ =
@@ -123,7 +123,7 @@ module _ (t : List ℕ) (at from n : ℕ) where
       }
 
   pub gathering-passes :
-      (out out₁ out₂ : List ℕ) (g r : Stage) → (get_or t g.next 0 ≡ 125 → ⊥) → (g.next < bodyPlace (get_or t g.next 0) g.next → ⊥)
+      (out out₁ out₂ : List ℕ) (g r : Stage) → (get_or t g.next 0 ≡ 125 → ⊥) → (g.next < body_place (get_or t g.next 0) g.next → ⊥)
       → Gathering t at from n out out₁ g → (g.next < r.next) × Passes t from out₁ out₂ g r → length out₂ ≡ length out₁
       → Gathering t at from n out out₂ r
   gathering-passes out out₁ out₂ g r x y s pass same =

@@ -8,96 +8,96 @@ use native.Mathlib.Omega.{arith}
 use lib.ListN.{length, take, drop, get_or, set, length-append}
 use lib.Seq.{set_at, take_at}
 use borrow.Author.Tests.{lt-ltb, le-ltb}
-use Rattle.tsparql.specs.Lists.{concatMap}
-use Rattle.tsparql.proofs.ListLaws.{concatMap-append}
+use Rattle.tsparql.specs.Lists.{concat_map}
+use Rattle.tsparql.proofs.ListLaws.{concat_map-append}
 use Rattle.tsparql.specs.Query as Q
-use Rattle.tsparql.specs.Query.{Node, Pattern, patternSet, join, leftJoin, union, projectTrust, ensureTrust}
-use Rattle.tsparql.specs.Writing.{nodeBytes, conditionBytes, patternBytes, threeBytes, slotNumber}
+use Rattle.tsparql.specs.Query.{Node, Pattern, pattern_set, join, left_join, union, project_trust, ensure_trust}
+use Rattle.tsparql.specs.Writing.{node_bytes, condition_bytes, pattern_bytes, three_bytes, slot_number}
 use Rattle.grammar.proofs.Sizes.{patterns-size}
 use Rattle.grammar.specs.Grammar.{Slot, term, variable}
-use Rattle.grammar.specs.Meaning.{isEmptySet, joined, slot_of, patternOf}
+use Rattle.grammar.specs.Meaning.{is_empty_set, joined, slot_of, pattern_of}
 use Rattle.blocks.specs.Buffers.{buffer, appended}
 use Rattle.blocks.specs.Blocks.{Holds, Puts, Exchanges, Appends}
 use Rattle.blocks.proofs.Holding.{holds-split, split-holds, appends, appended-on}
-use Rattle.words.specs.Words.{slotWord}
+use Rattle.words.specs.Words.{slot_word}
 use Rattle.words.proofs.WordLaws.{word_at, word_first}
-use Rattle.parser.specs.Sets.{Unites, Joins, before, Begins, slotBytes, Adds}
+use Rattle.parser.specs.Sets.{Unites, Joins, before, Begins, slot_bytes, Adds}
 
 -- ---- lengths
 
-pub node-large : (x : Node) → 1 ≤ length (nodeBytes x)
-unfolding nodeBytes
-node-large (patternSet ps) = omega arith
+pub node-large : (x : Node) → 1 ≤ length (node_bytes x)
+unfolding node_bytes
+node-large (pattern_set ps) = omega arith
 node-large (join x y) = omega arith
-node-large (leftJoin c x y) = omega arith
+node-large (left_join c x y) = omega arith
 node-large (union x y) = omega arith
 node-large (Q.filter c x) = omega arith
-node-large (projectTrust v x) = omega arith
-node-large (ensureTrust l u x) = omega arith
+node-large (project_trust v x) = omega arith
+node-large (ensure_trust l u x) = omega arith
 
-is-empty : (x : Node) → isEmptySet x ≡ true → x ≡ patternSet []
-is-empty (patternSet []) e = refl
-is-empty (patternSet (p ∷ ps)) e = absurd (true≢false (sym e))
+is-empty : (x : Node) → is_empty_set x ≡ true → x ≡ pattern_set []
+is-empty (pattern_set []) e = refl
+is-empty (pattern_set (p ∷ ps)) e = absurd (true≢false (sym e))
 is-empty (join x y) e = absurd (true≢false (sym e))
-is-empty (leftJoin c x y) e = absurd (true≢false (sym e))
+is-empty (left_join c x y) e = absurd (true≢false (sym e))
 is-empty (union x y) e = absurd (true≢false (sym e))
 is-empty (Q.filter c x) e = absurd (true≢false (sym e))
-is-empty (projectTrust v x) e = absurd (true≢false (sym e))
-is-empty (ensureTrust l u x) e = absurd (true≢false (sym e))
+is-empty (project_trust v x) e = absurd (true≢false (sym e))
+is-empty (ensure_trust l u x) e = absurd (true≢false (sym e))
 
-empty-bytes : (x : Node) → isEmptySet x ≡ true → nodeBytes x ≡ 0 ∷ []
-unfolding nodeBytes
-empty-bytes x e = ap nodeBytes (is-empty x e)
+empty-bytes : (x : Node) → is_empty_set x ≡ true → node_bytes x ≡ 0 ∷ []
+unfolding node_bytes
+empty-bytes x e = ap node_bytes (is-empty x e)
 
-pub full-large : (x : Node) → isEmptySet x ≡ false → 2 ≤ length (nodeBytes x)
-unfolding nodeBytes patternBytes
-full-large (patternSet []) e = absurd (true≢false e)
-full-large (patternSet (p ∷ ps)) e = omega arith
-full-large (join x y) e = omega (arith, length-append (nodeBytes x) (nodeBytes y), node-large x)
-full-large (leftJoin c x y) e =
-    let both = length-append (nodeBytes x) (nodeBytes y) in
-    omega (arith, length-append (conditionBytes c) (nodeBytes x ++ nodeBytes y), both, node-large x)
-full-large (union x y) e = omega (arith, length-append (nodeBytes x) (nodeBytes y), node-large x)
-full-large (Q.filter c x) e = omega (arith, length-append (conditionBytes c) (nodeBytes x), node-large x)
-full-large (projectTrust v x) e = omega (arith, node-large x)
-full-large (ensureTrust l u x) e = omega arith
+pub full-large : (x : Node) → is_empty_set x ≡ false → 2 ≤ length (node_bytes x)
+unfolding node_bytes pattern_bytes
+full-large (pattern_set []) e = absurd (true≢false e)
+full-large (pattern_set (p ∷ ps)) e = omega arith
+full-large (join x y) e = omega (arith, length-append (node_bytes x) (node_bytes y), node-large x)
+full-large (left_join c x y) e =
+    let both = length-append (node_bytes x) (node_bytes y) in
+    omega (arith, length-append (condition_bytes c) (node_bytes x ++ node_bytes y), both, node-large x)
+full-large (union x y) e = omega (arith, length-append (node_bytes x) (node_bytes y), node-large x)
+full-large (Q.filter c x) e = omega (arith, length-append (condition_bytes c) (node_bytes x), node-large x)
+full-large (project_trust v x) e = omega (arith, node-large x)
+full-large (ensure_trust l u x) e = omega arith
 
 -- ---- sets
 
-pub joined-empty : (x : Node) → joined x (patternSet []) ≡ x
-joined-empty x = go (isEmptySet x) refl
+pub joined-empty : (x : Node) → joined x (pattern_set []) ≡ x
+joined-empty x = go (is_empty_set x) refl
   where
-    go : (b : Bool) → isEmptySet x ≡ b → joined x (patternSet []) ≡ x
-    go true e = ap (λ (b : Bool). cond b (patternSet []) x) e ∙ sym (is-empty x e)
-    go false e = ap (λ (b : Bool). cond b (patternSet []) x) e
+    go : (b : Bool) → is_empty_set x ≡ b → joined x (pattern_set []) ≡ x
+    go true e = ap (λ (b : Bool). cond b (pattern_set []) x) e ∙ sym (is-empty x e)
+    go false e = ap (λ (b : Bool). cond b (pattern_set []) x) e
 
 pub joined-set :
     (x : Node) (p : Pattern) (ps : List Pattern)
-    → before x ++ nodeBytes (patternSet (p ∷ ps)) ≡ nodeBytes (joined x (patternSet (p ∷ ps)))
-unfolding nodeBytes
-joined-set x p ps = go (isEmptySet x) refl
+    → before x ++ node_bytes (pattern_set (p ∷ ps)) ≡ node_bytes (joined x (pattern_set (p ∷ ps)))
+unfolding node_bytes
+joined-set x p ps = go (is_empty_set x) refl
   where
-    go : (b : Bool) → isEmptySet x ≡ b → before x ++ nodeBytes (patternSet (p ∷ ps)) ≡ nodeBytes (joined x (patternSet (p ∷ ps)))
+    go : (b : Bool) → is_empty_set x ≡ b → before x ++ node_bytes (pattern_set (p ∷ ps)) ≡ node_bytes (joined x (pattern_set (p ∷ ps)))
     go true e = rw e
     go false e = rw e
 
-pub before-size : (x : Node) → length (before x) ≤ length (nodeBytes x) + 1
-before-size x = go (isEmptySet x)
+pub before-size : (x : Node) → length (before x) ≤ length (node_bytes x) + 1
+before-size x = go (is_empty_set x)
   where
-    go : (b : Bool) → length (cond b [] (16 ∷ nodeBytes x)) ≤ length (nodeBytes x) + 1
+    go : (b : Bool) → length (cond b [] (16 ∷ node_bytes x)) ≤ length (node_bytes x) + 1
     go true = omega arith
     go false = omega arith
 
-pub set-size : (ps : List Pattern) → length (nodeBytes (patternSet ps)) ≡ 1 + 9 * length ps
-unfolding nodeBytes
+pub set-size : (ps : List Pattern) → length (node_bytes (pattern_set ps)) ≡ 1 + 9 * length ps
+unfolding node_bytes
 set-size ps = omega (arith, patterns-size ps)
 
 -- ---- united
 
 pub unite-some : (out out' : List ℕ) (mid end n r : ℕ) → mid < end → Puts out out' mid n 48 r → Unites out out' mid end n r
-unfolding nodeBytes
+unfolding node_bytes
 unite-some out out' mid end n r h a pre none x e f g room = absurd (omega arith)
-unite-some out out' mid end n r h a pre (some u) x e f g room = a pre (nodeBytes u ++ nodeBytes x) (sym e) g room
+unite-some out out' mid end n r h a pre (some u) x e f g room = a pre (node_bytes u ++ node_bytes x) (sym e) g room
 
 pub unite-none : (out : List ℕ) (mid end n : ℕ) → end ≤ mid → Unites out out mid end n n
 unite-none out mid end n h pre none x e f g room = g
@@ -109,7 +109,7 @@ unite-none out mid end n h pre (some u) x e f g room = absurd (omega (arith, nod
 pub joins-none : (out : List ℕ) (from mid n r : ℕ) → n ≤ mid → Joins out out from mid n r
 joins-none out from mid n r h pre x y e f g room =
     let s = g.size in
-    absurd (omega (arith, length-append pre (nodeBytes x ++ nodeBytes y), length-append (nodeBytes x) (nodeBytes y), node-large y))
+    absurd (omega (arith, length-append pre (node_bytes x ++ node_bytes y), length-append (node_bytes x) (node_bytes y), node-large y))
 
 pub joins-none-2 : (out : List ℕ) (from mid n r : ℕ) → mid ≤ from → Joins out out from mid n r
 joins-none-2 out from mid n r h pre x y e f g room = absurd (omega (arith, node-large x))
@@ -119,86 +119,86 @@ held-front out xs ys n m e h =
     split-holds out xs (ys ++ drop n out) m (holds-split out (xs ++ ys) n h ∙ append_assoc xs ys (drop n out)) e
 
 pub joins-right-empty : (out : List ℕ) (from mid n : ℕ) → mid < n → n - mid ≡ 1 → Joins out out from mid n mid
-joins-right-empty out from mid n l q pre x y e f g room = go (isEmptySet x) refl (isEmptySet y) refl
+joins-right-empty out from mid n l q pre x y e f g room = go (is_empty_set x) refl (is_empty_set y) refl
   where
-    go : (b : Bool) → isEmptySet x ≡ b → (c : Bool) → isEmptySet y ≡ c → Holds out (pre ++ nodeBytes (joined x y)) mid
+    go : (b : Bool) → is_empty_set x ≡ b → (c : Bool) → is_empty_set y ≡ c → Holds out (pre ++ node_bytes (joined x y)) mid
     go b ex false ey =
         let s = g.size in
-        absurd (omega (arith, length-append pre (nodeBytes x ++ nodeBytes y), length-append (nodeBytes x) (nodeBytes y), full-large y ey))
+        absurd (omega (arith, length-append pre (node_bytes x ++ node_bytes y), length-append (node_bytes x) (node_bytes y), full-large y ey))
     go true ex true ey =
-        let h = held-front out (pre ++ nodeBytes x) (nodeBytes y) n mid (f ∙ sym (length-append pre (nodeBytes x)))
-        (subst (λ (l : List ℕ). Holds out l n) (sym (append_assoc pre (nodeBytes x) (nodeBytes y))) g) in
-        let so : nodeBytes x ≡ nodeBytes (joined x y) = empty-bytes x ex ∙ sym (empty-bytes y ey) ∙ rw ex in
+        let h = held-front out (pre ++ node_bytes x) (node_bytes y) n mid (f ∙ sym (length-append pre (node_bytes x)))
+        (subst (λ (l : List ℕ). Holds out l n) (sym (append_assoc pre (node_bytes x) (node_bytes y))) g) in
+        let so : node_bytes x ≡ node_bytes (joined x y) = empty-bytes x ex ∙ sym (empty-bytes y ey) ∙ rw ex in
         subst (λ (l : List ℕ). Holds out (pre ++ l) mid) so h
     go false ex true ey =
-        let h = held-front out (pre ++ nodeBytes x) (nodeBytes y) n mid (f ∙ sym (length-append pre (nodeBytes x)))
-        (subst (λ (l : List ℕ). Holds out l n) (sym (append_assoc pre (nodeBytes x) (nodeBytes y))) g) in
-        let so : nodeBytes x ≡ nodeBytes (joined x y) = rw (ex, ey) in
+        let h = held-front out (pre ++ node_bytes x) (node_bytes y) n mid (f ∙ sym (length-append pre (node_bytes x)))
+        (subst (λ (l : List ℕ). Holds out l n) (sym (append_assoc pre (node_bytes x) (node_bytes y))) g) in
+        let so : node_bytes x ≡ node_bytes (joined x y) = rw (ex, ey) in
         subst (λ (l : List ℕ). Holds out (pre ++ l) mid) so h
 
 pub joins-left-empty :
     (out out' : List ℕ) (from mid n : ℕ) → from < mid → mid - from ≡ 1 → mid < n → Exchanges out out' from mid n
     → Joins out out' from mid n (n - 1)
-joins-left-empty out out' from mid n l q z a pre x y e f g room = go (isEmptySet x) refl
+joins-left-empty out out' from mid n l q z a pre x y e f g room = go (is_empty_set x) refl
   where
-    go : (b : Bool) → isEmptySet x ≡ b → Holds out' (pre ++ nodeBytes (joined x y)) (n - 1)
+    go : (b : Bool) → is_empty_set x ≡ b → Holds out' (pre ++ node_bytes (joined x y)) (n - 1)
     go false ex = absurd (omega (arith, full-large x ex))
     go true ex =
         let s = g.size in
-        let h = a pre (nodeBytes x) (nodeBytes y) (sym e) (sym f) g in
-        let both = length-append (nodeBytes x) (nodeBytes y) in
-        let k : n - 1 ≡ length (pre ++ nodeBytes y) =
-        omega (arith, length-append pre (nodeBytes x ++ nodeBytes y), both, length-append pre (nodeBytes y)) in
-        let h₂ = held-front out' (pre ++ nodeBytes y) (nodeBytes x) n (n - 1) k
-        (subst (λ (l : List ℕ). Holds out' l n) (sym (append_assoc pre (nodeBytes y) (nodeBytes x))) h) in
-        let so : nodeBytes y ≡ nodeBytes (joined x y) = rw ex in
+        let h = a pre (node_bytes x) (node_bytes y) (sym e) (sym f) g in
+        let both = length-append (node_bytes x) (node_bytes y) in
+        let k : n - 1 ≡ length (pre ++ node_bytes y) =
+        omega (arith, length-append pre (node_bytes x ++ node_bytes y), both, length-append pre (node_bytes y)) in
+        let h₂ = held-front out' (pre ++ node_bytes y) (node_bytes x) n (n - 1) k
+        (subst (λ (l : List ℕ). Holds out' l n) (sym (append_assoc pre (node_bytes y) (node_bytes x))) h) in
+        let so : node_bytes y ≡ node_bytes (joined x y) = rw ex in
         subst (λ (l : List ℕ). Holds out' (pre ++ l) (n - 1)) so h₂
 
 pub joins-both :
     (out out' : List ℕ) (from mid n r : ℕ) → from < mid → mid < n → (mid - from ≡ 1 → ⊥) → (n - mid ≡ 1 → ⊥) → Puts out out' from n 16 r
     → Joins out out' from mid n r
-unfolding nodeBytes
-joins-both out out' from mid n r l z p q a pre x y e f g room = go (isEmptySet x) refl (isEmptySet y) refl
+unfolding node_bytes
+joins-both out out' from mid n r l z p q a pre x y e f g room = go (is_empty_set x) refl (is_empty_set y) refl
   where
-    go : (b : Bool) → isEmptySet x ≡ b → (c : Bool) → isEmptySet y ≡ c → Holds out' (pre ++ nodeBytes (joined x y)) r
+    go : (b : Bool) → is_empty_set x ≡ b → (c : Bool) → is_empty_set y ≡ c → Holds out' (pre ++ node_bytes (joined x y)) r
     go true ex c ey = absurd (p (omega (arith, ap length (empty-bytes x ex))))
     go false ex true ey =
         let s = g.size in
-        let both = length-append (nodeBytes x) (nodeBytes y) in
-        absurd (q (omega (arith, ap length (empty-bytes y ey), length-append pre (nodeBytes x ++ nodeBytes y), both)))
+        let both = length-append (node_bytes x) (node_bytes y) in
+        absurd (q (omega (arith, ap length (empty-bytes y ey), length-append pre (node_bytes x ++ node_bytes y), both)))
     go false ex false ey =
-        let so : nodeBytes (join x y) ≡ nodeBytes (joined x y) = rw (ex, ey) in
-        subst (λ (l : List ℕ). Holds out' (pre ++ l) r) so (a pre (nodeBytes x ++ nodeBytes y) (sym e) g room)
+        let so : node_bytes (join x y) ≡ node_bytes (joined x y) = rw (ex, ey) in
+        subst (λ (l : List ℕ). Holds out' (pre ++ l) r) so (a pre (node_bytes x ++ node_bytes y) (sym e) g room)
 
 -- ---- an empty set
 
 pub begins-none : (out : List ℕ) (from n r : ℕ) → n ≤ from → Begins out out from n r
-begins-none out from n r h pre x e g room = let s = g.size in absurd (omega (arith, length-append pre (nodeBytes x), node-large x))
+begins-none out from n r h pre x e g room = let s = g.size in absurd (omega (arith, length-append pre (node_bytes x), node-large x))
 
 pub begins-empty : (out : List ℕ) (from n : ℕ) → from < n → n - from ≡ 1 → Begins out out from n n
-begins-empty out from n l q pre x e g room = go (isEmptySet x) refl
+begins-empty out from n l q pre x e g room = go (is_empty_set x) refl
   where
-    go : (b : Bool) → isEmptySet x ≡ b → Holds out (pre ++ (before x ++ (0 ∷ []))) n
-    go false ex = let s = g.size in absurd (omega (arith, length-append pre (nodeBytes x), full-large x ex))
+    go : (b : Bool) → is_empty_set x ≡ b → Holds out (pre ++ (before x ++ (0 ∷ []))) n
+    go false ex = let s = g.size in absurd (omega (arith, length-append pre (node_bytes x), full-large x ex))
     go true ex =
-        let so : nodeBytes x ≡ before x ++ (0 ∷ []) = empty-bytes x ex ∙ rw ex in
+        let so : node_bytes x ≡ before x ++ (0 ∷ []) = empty-bytes x ex ∙ rw ex in
         subst (λ (l : List ℕ). Holds out (pre ++ l) n) so g
 
 pub begins-full :
     (out out₁ out₂ : List ℕ) (from n m r : ℕ) → from < n → (n - from ≡ 1 → ⊥) → length out₁ ≡ length out → Appends out out₁ n (0 ∷ []) m
     → Puts out₁ out₂ from m 16 r → Begins out out₂ from n r
-begins-full out out₁ out₂ from n m r l q same a b pre x e g room = go (isEmptySet x) refl
+begins-full out out₁ out₂ from n m r l q same a b pre x e g room = go (is_empty_set x) refl
   where
-    go : (c : Bool) → isEmptySet x ≡ c → Holds out₂ (pre ++ (before x ++ (0 ∷ []))) r
-    go true ex = let s = g.size in absurd (q (omega (arith, length-append pre (nodeBytes x), ap length (empty-bytes x ex))))
+    go : (c : Bool) → is_empty_set x ≡ c → Holds out₂ (pre ++ (before x ++ (0 ∷ []))) r
+    go true ex = let s = g.size in absurd (q (omega (arith, length-append pre (node_bytes x), ap length (empty-bytes x ex))))
     go false ex =
         let s = g.size in
-        let h = a (pre ++ nodeBytes x) g (omega arith) in
+        let h = a (pre ++ node_bytes x) g (omega arith) in
         let k = h.size in
-        let h₁ = subst (λ (y : List ℕ). Holds out₁ y m) (append_assoc pre (nodeBytes x) (0 ∷ [])) h in
-        let h₂ = b pre (nodeBytes x ++ (0 ∷ [])) (sym e) h₁
-        (omega (arith, length-append (pre ++ nodeBytes x) (0 ∷ []))) in
-        let so : 16 ∷ (nodeBytes x ++ (0 ∷ [])) ≡ before x ++ (0 ∷ []) = rw ex in
+        let h₁ = subst (λ (y : List ℕ). Holds out₁ y m) (append_assoc pre (node_bytes x) (0 ∷ [])) h in
+        let h₂ = b pre (node_bytes x ++ (0 ∷ [])) (sym e) h₁
+        (omega (arith, length-append (pre ++ node_bytes x) (0 ∷ []))) in
+        let so : 16 ∷ (node_bytes x ++ (0 ∷ [])) ≡ before x ++ (0 ∷ []) = rw ex in
         subst (λ (y : List ℕ). Holds out₂ (pre ++ y) r) so h₂
 
 -- ---- a byte
@@ -218,16 +218,16 @@ holds-set out pre rest h v a n e g =
 -- ---- slots
 
 -- the number that `slot` writes of a variable, and of a term
-pub bytes-variable : (w : ℕ) → w < 2097152 → threeBytes ((1048576 + w % 256) % 2097152) ≡ slotBytes w
+pub bytes-variable : (w : ℕ) → w < 2097152 → three_bytes ((1048576 + w % 256) % 2097152) ≡ slot_bytes w
 bytes-variable w l =
     let same : (1048576 + w % 256) % 2097152 ≡ 1048576 + w % 256 = omega arith in
-    ap threeBytes (same ∙ sym (rw (lt-ltb w 2097152 l)))
+    ap three_bytes (same ∙ sym (rw (lt-ltb w 2097152 l)))
 
-pub bytes-term : (w : ℕ) → 2097152 ≤ w → threeBytes (w % 2097152) ≡ slotBytes w
+pub bytes-term : (w : ℕ) → 2097152 ≤ w → three_bytes (w % 2097152) ≡ slot_bytes w
 bytes-term w l = sym (rw (le-ltb w 2097152 l))
 
 -- they are the bytes of the slot whose word it is
-slot-bytes : (x : Slot) → slotBytes (slotWord x) ≡ threeBytes (slotNumber (slot_of x))
+slot-bytes : (x : Slot) → slot_bytes (slot_word x) ≡ three_bytes (slot_number (slot_of x))
 slot-bytes (variable v) =
     let s = v.small in
     let name : (256 + v.name) % 256 ≡ v.name = omega arith in
@@ -241,49 +241,49 @@ slot-bytes (term x) =
 
 set_more :
     (ps : List Pattern) (p : Pattern)
-    → nodeBytes (patternSet (ps ++ (p ∷ []))) ≡ (length ps + 1) ∷ (concatMap patternBytes ps ++ patternBytes p)
-unfolding nodeBytes
+    → node_bytes (pattern_set (ps ++ (p ∷ []))) ≡ (length ps + 1) ∷ (concat_map pattern_bytes ps ++ pattern_bytes p)
+unfolding node_bytes
 set_more ps p =
     let n : 0 + length (ps ++ (p ∷ [])) ≡ length ps + 1 = omega (arith, length-append ps (p ∷ [])) in
-    let all : concatMap patternBytes (ps ++ (p ∷ [])) ≡ concatMap patternBytes ps ++ patternBytes p =
-    concatMap-append patternBytes ps (p ∷ []) ∙ ap (λ (l : List ℕ). concatMap patternBytes ps ++ l) (append-nil (patternBytes p)) in
-    ap (λ (c : ℕ). c ∷ concatMap patternBytes (ps ++ (p ∷ []))) n ∙ ap (λ (l : List ℕ). (length ps + 1) ∷ l) all
+    let all : concat_map pattern_bytes (ps ++ (p ∷ [])) ≡ concat_map pattern_bytes ps ++ pattern_bytes p =
+    concat_map-append pattern_bytes ps (p ∷ []) ∙ ap (λ (l : List ℕ). concat_map pattern_bytes ps ++ l) (append-nil (pattern_bytes p)) in
+    ap (λ (c : ℕ). c ∷ concat_map pattern_bytes (ps ++ (p ∷ []))) n ∙ ap (λ (l : List ℕ). (length ps + 1) ∷ l) all
 
 three-parts : {a b c a' b' c' : List ℕ} → a ≡ a' → b ≡ b' → c ≡ c' → (a ++ b) ++ c ≡ a' ++ (b' ++ c')
 three-parts {a} {b} {c} {a'} {b'} {c'} p q r = append_assoc a b c ∙ rw (p, q, r)
 
 pub adds :
     (t : List ℕ) (i : ℕ) (out out₀ out₁ out₂ out₃ : List ℕ) (n run a b r : ℕ) → length out₀ ≡ length out → 9 * run < n
-    → out₀ ≡ set out (n - 1 - 9 * run) (run + 1) → buffer out₁ a ≡ appended (buffer out₀ n) (slotBytes (get_or t i 0))
-    → buffer out₂ b ≡ appended (buffer out₁ a) (slotBytes (get_or t (i + 1) 0))
-    → buffer out₃ r ≡ appended (buffer out₂ b) (slotBytes (get_or t (i + 2) 0))
+    → out₀ ≡ set out (n - 1 - 9 * run) (run + 1) → buffer out₁ a ≡ appended (buffer out₀ n) (slot_bytes (get_or t i 0))
+    → buffer out₂ b ≡ appended (buffer out₁ a) (slot_bytes (get_or t (i + 1) 0))
+    → buffer out₃ r ≡ appended (buffer out₂ b) (slot_bytes (get_or t (i + 2) 0))
     → Adds t i out out₃ n run r
-unfolding nodeBytes patternBytes
+unfolding node_bytes pattern_bytes
 adds t i out out₀ out₁ out₂ out₃ n run a b r s₀ z m p q w pre ps x y v rest e few f g room =
     let size = g.size in
     let k = patterns-size ps in
-    let P = concatMap patternBytes ps in
-    let B = patternBytes (patternOf x y v) in
+    let P = concat_map pattern_bytes ps in
+    let B = pattern_bytes (pattern_of x y v) in
     let place : length pre ≡ n - 1 - 9 * run = omega (arith, length-append pre ((0 + length ps) ∷ P)) in
     let count = holds-set out pre P (n - 1 - 9 * run) (run + 1) (0 + length ps) n place g in
     let h₀ = subst (λ (l : List ℕ). Holds l (pre ++ ((run + 1) ∷ P)) n) (sym m) count in
-    let X : slotBytes (get_or t i 0) ≡ threeBytes (slotNumber (slot_of x)) = ap slotBytes (word_first t _ i _ f) ∙ slot-bytes x in
-    let Y : slotBytes (get_or t (i + 1) 0) ≡ threeBytes (slotNumber (slot_of y)) = ap slotBytes (word_at t _ i 1 f) ∙ slot-bytes y in
-    let Z : slotBytes (get_or t (i + 2) 0) ≡ threeBytes (slotNumber (slot_of v)) = ap slotBytes (word_at t _ i 2 f) ∙ slot-bytes v in
+    let X : slot_bytes (get_or t i 0) ≡ three_bytes (slot_number (slot_of x)) = ap slot_bytes (word_first t _ i _ f) ∙ slot-bytes x in
+    let Y : slot_bytes (get_or t (i + 1) 0) ≡ three_bytes (slot_number (slot_of y)) = ap slot_bytes (word_at t _ i 1 f) ∙ slot-bytes y in
+    let Z : slot_bytes (get_or t (i + 2) 0) ≡ three_bytes (slot_number (slot_of v)) = ap slot_bytes (word_at t _ i 2 f) ∙ slot-bytes v in
     let three = appended-on _ _ (buffer out₀ n) (appended-on _ _ (buffer out₀ n) p q) w in
     let all : buffer out₃ r ≡ appended (buffer out₀ n) B = three ∙ ap (appended (buffer out₀ n)) (three-parts X Y Z) in
     let h = appends B all (pre ++ ((run + 1) ∷ P)) h₀ (omega arith) in
-    let flat : (pre ++ ((run + 1) ∷ P)) ++ B ≡ pre ++ nodeBytes (patternSet (ps ++ (patternOf x y v ∷ []))) =
+    let flat : (pre ++ ((run + 1) ∷ P)) ++ B ≡ pre ++ node_bytes (pattern_set (ps ++ (pattern_of x y v ∷ []))) =
     append_assoc pre ((run + 1) ∷ P) B
     ∙ ap (λ (c : ℕ). pre ++ ((c + 1) ∷ (P ++ B))) e
-    ∙ ap (λ (l : List ℕ). pre ++ l) (sym (set_more ps (patternOf x y v))) in
+    ∙ ap (λ (l : List ℕ). pre ++ l) (sym (set_more ps (pattern_of x y v))) in
     subst (λ (l : List ℕ). Holds out₃ l r) flat h
 
 pub adds_none : (t : List ℕ) (i : ℕ) (out : List ℕ) (n run r : ℕ) → 14 < run → Adds t i out out n run r
 adds_none t i out n run r h pre ps x y v rest e few f g room = absurd (omega arith)
 
 pub adds-none-2 : (t : List ℕ) (i : ℕ) (out : List ℕ) (n run r : ℕ) → n ≤ 9 * run → Adds t i out out n run r
-unfolding nodeBytes
+unfolding node_bytes
 adds-none-2 t i out n run r h pre ps x y v rest e few f g room =
     let size = g.size in
-    absurd (omega (arith, patterns-size ps, length-append pre ((0 + length ps) ∷ concatMap patternBytes ps)))
+    absurd (omega (arith, patterns-size ps, length-append pre ((0 + length ps) ∷ concat_map pattern_bytes ps)))

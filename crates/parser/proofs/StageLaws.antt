@@ -7,18 +7,18 @@ use mathlib.Core.Option.{Option, none, some}
 use Prim.Native.Nat.{ℕ, ◌≤◌, ◌<◌}
 use native.Mathlib.Omega.{arith}
 use lib.ListN.{length, drop, get_or, length-drop, length-map}
-use Rattle.tsparql.specs.Query.{Node, patternSet}
-use Rattle.tsparql.specs.Writing.{nodeBytes}
+use Rattle.tsparql.specs.Query.{Node, pattern_set}
+use Rattle.tsparql.specs.Writing.{node_bytes}
 use Rattle.grammar.specs.Tokens.{Token}
-use Rattle.grammar.specs.Sparql.{optionalDot}
-use Rattle.grammar.specs.Grammar.{bodyTokens}
+use Rattle.grammar.specs.Sparql.{optional_dot}
+use Rattle.grammar.specs.Grammar.{body_tokens}
 use Rattle.grammar.specs.Meaning.{Item, joined}
 use Rattle.grammar.proofs.Sizes.{tree-size}
 use Rattle.blocks.specs.Blocks.{Holds}
-use Rattle.words.specs.Words.{tokenWord}
+use Rattle.words.specs.Words.{token_word}
 use Rattle.words.proofs.WordLaws.{word_first}
 use Rattle.groups.specs.Items.{Follows, Items}
-use Rattle.parser.specs.Sets.{pendingBytes}
+use Rattle.parser.specs.Sets.{pending_bytes}
 use Rattle.parser.specs.Stages.{Coming, Stands}
 use Rattle.parser.specs.declared.Stage.{Stage}
 
@@ -27,15 +27,15 @@ use Rattle.parser.specs.declared.Stage.{Stage}
 -- a body has more tokens than stand behind it
 pub follows-longer : (ts : List Token) (is : List Item) (rest : List Token) → Follows ts is rest → length rest < length ts
 follows-longer ts is rest f =
-    omega (arith, tree-size f.tree rest, ap length f.written, dot-longer f.dot (bodyTokens f.tree rest))
+    omega (arith, tree-size f.tree rest, ap length f.written, dot-longer f.dot (body_tokens f.tree rest))
   where
-    dot-longer : (b : Bool) (us : List Token) → length us ≤ length (optionalDot b us)
+    dot-longer : (b : Bool) (us : List Token) → length us ≤ length (optional_dot b us)
     dot-longer true us = omega arith
     dot-longer false us = omega arith
 
 pub items-longer : (ws : List ℕ) (is : List Item) (rest : List Token) → Items ws is rest → length rest < length ws
 items-longer ws is rest i =
-    omega (arith, follows-longer i.tail is rest i.follows, ap length i.written, length-map i.tail tokenWord)
+    omega (arith, follows-longer i.tail is rest i.follows, ap length i.written, length-map i.tail token_word)
 
 -- ---- a stage
 
@@ -52,15 +52,15 @@ module _ (t : List ℕ) (rest : List Token) (final : Node) (from : ℕ) (pre out
       go none i = omega (arith, items-longer _ _ _ i, length-drop g.next t)
       go (some u) c = omega (arith, ap length c.written, length-drop g.next t)
 
-  pub stage-items : (get_or t g.next 0 ≡ 85 → ⊥) → Items (drop g.next t) s.items rest × (pendingBytes s.pending ≡ [])
+  pub stage-items : (get_or t g.next 0 ≡ 85 → ⊥) → Items (drop g.next t) s.items rest × (pending_bytes s.pending ≡ [])
   stage-items w = go s.pending s.coming
     where
       go : (p : Option Node) → Coming p (drop g.next t) s.items rest
-          → Items (drop g.next t) s.items rest × (pendingBytes p ≡ [])
+          → Items (drop g.next t) s.items rest × (pending_bytes p ≡ [])
       go none i = (i, refl)
       go (some u) c = absurd (w (word_first t _ g.next _ c.written))
 
-  pub stage-holds : pendingBytes s.pending ≡ [] → Holds out (pre ++ nodeBytes (joined s.left (patternSet s.run))) g.len
+  pub stage-holds : pending_bytes s.pending ≡ [] → Holds out (pre ++ node_bytes (joined s.left (pattern_set s.run))) g.len
   stage-holds e =
-      let J = nodeBytes (joined s.left (patternSet s.run)) in
+      let J = node_bytes (joined s.left (pattern_set s.run)) in
       subst (λ (l : List ℕ). Holds out (pre ++ l) g.len) (ap (λ (l : List ℕ). J ++ l) e ∙ append-nil J) s.holds

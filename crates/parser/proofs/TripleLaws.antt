@@ -9,16 +9,16 @@ use native.Mathlib.Omega.{arith}
 use lib.Dec.{eqb, leb}
 use lib.ListN.{length, drop, get_or, length-append, length-map}
 use borrow.Author.Tests.{eqb-true, eqb-false, leb-true, leb-false, le-leb, eq-eqb, ne_eqb}
-use Rattle.tsparql.specs.Query.{Node, Pattern, patternSet}
-use Rattle.tsparql.specs.Writing.{nodeBytes}
+use Rattle.tsparql.specs.Query.{Node, Pattern, pattern_set}
+use Rattle.tsparql.specs.Writing.{node_bytes}
 use Rattle.grammar.specs.Tokens.{Token}
 use Rattle.grammar.specs.Grammar.{Slot}
-use Rattle.grammar.specs.Meaning.{Item, aTriple, patternOf, joined, gathered}
+use Rattle.grammar.specs.Meaning.{Item, a_triple, pattern_of, joined, gathered}
 use Rattle.blocks.specs.Blocks.{Holds}
-use Rattle.words.specs.Words.{tokenWord, words, slotWord}
+use Rattle.words.specs.Words.{token_word, words, slot_word}
 use Rattle.words.proofs.WordLaws.{words-on}
 use Rattle.groups.specs.Items.{Follows}
-use Rattle.groups.proofs.Fronts.{Walks, kTriple, kind_of, View, atTriple, items-walks, view-at}
+use Rattle.groups.proofs.Fronts.{Walks, k_triple, kind_of, View, at_triple, items-walks, view-at}
 use Rattle.parser.specs.Sets.{before, Begins, Adds}
 use Rattle.parser.specs.Stages.{Triples}
 use Rattle.parser.specs.declared.Stage.{Stage}
@@ -50,32 +50,32 @@ record Front (t : List ℕ) (rest : List Token) (i : ℕ) (is : List Item) : Typ
   z : Slot
   tail : List Token
   later : List Item
-  written : drop i t ≡ slotWord x ∷ slotWord y ∷ slotWord z ∷ words tail
-  means : is ≡ aTriple (patternOf x y z) ∷ later
+  written : drop i t ≡ slot_word x ∷ slot_word y ∷ slot_word z ∷ words tail
+  means : is ≡ a_triple (pattern_of x y z) ∷ later
   follows : Follows tail later rest
 
-front : (t : List ℕ) (rest : List Token) (i : ℕ) (is : List Item) → View (drop i t) is rest kTriple → Front t rest i is
-front t rest i is (atTriple x y z tail later e q f) =
+front : (t : List ℕ) (rest : List Token) (i : ℕ) (is : List Item) → View (drop i t) is rest k_triple → Front t rest i is
+front t rest i is (at_triple x y z tail later e q f) =
     record { x = x; y = y; z = z; tail = tail; later = later; written = e; means = q; follows = f }
 
 -- a word of at least 256 begins one
 triple-at :
     (t : List ℕ) (i : ℕ) (is : List Item) (rest : List Token) → 256 ≤ get_or t i 0 → Walks (drop i t) is rest
-    → View (drop i t) is rest kTriple
+    → View (drop i t) is rest k_triple
 triple-at t i is rest h w =
-    let same : kind_of (get_or t i 0) ≡ kTriple = rw (le-leb 256 (get_or t i 0) h) in
+    let same : kind_of (get_or t i 0) ≡ k_triple = rw (le-leb 256 (get_or t i 0) h) in
     subst (View (drop i t) is rest) same (view-at t i (get_or t i 0) is rest refl w)
 
 -- ---- a new set
 
 -- the empty set has one byte
-empty-set : (out pre : List ℕ) (n : ℕ) → Holds out (pre ++ (0 ∷ [])) n → Holds out (pre ++ nodeBytes (patternSet [])) n
-unfolding nodeBytes
+empty-set : (out pre : List ℕ) (n : ℕ) → Holds out (pre ++ (0 ∷ [])) n → Holds out (pre ++ node_bytes (pattern_set [])) n
+unfolding node_bytes
 empty-set out pre n h = h
 
 gathered-new :
     (left : Node) (run : List Pattern) (p : Pattern) (later : List Item) → (length run ≡ 0) ⊎ (length run ≡ 15)
-    → gathered (joined left (patternSet run)) (p ∷ []) later ≡ gathered left run (aTriple p ∷ later)
+    → gathered (joined left (pattern_set run)) (p ∷ []) later ≡ gathered left run (a_triple p ∷ later)
 unfolding gathered
 gathered-new left [] p later (inl e) = ap (λ (x : Node). gathered x (p ∷ []) later) (joined-empty left)
 gathered-new left (q ∷ run) p later (inl e) = absurd (omega arith)
@@ -88,16 +88,16 @@ pub triple-new :
 triple-new t out out₁ out₂ from m e g o same same₂ begins adds rest pre final w s =
     let idle = stage-items t rest final from pre out g s (λ c. omega arith) in
     let f = front t rest g.next s.items (triple-at t g.next s.items rest w (items-walks idle.0)) in
-    let p = patternOf f.x f.y f.z in
-    let L = joined s.left (patternSet s.run) in
-    let J = nodeBytes L in
-    let N = nodeBytes (joined L (patternSet (p ∷ []))) in
+    let p = pattern_of f.x f.y f.z in
+    let L = joined s.left (pattern_set s.run) in
+    let J = node_bytes L in
+    let N = node_bytes (joined L (pattern_set (p ∷ []))) in
     let start = s.start in
     let held = stage-holds t rest final from pre out g s idle.1 in
     let size = held.size in
     let room = s.room in
     let words₁ = ap length f.written in
-    let words₂ = length-map f.tail tokenWord in
+    let words₂ = length-map f.tail token_word in
     let more = follows-longer _ _ _ f.follows in
     let small = before-size L in
     let wide = length-append pre J in
@@ -108,12 +108,12 @@ triple-new t out out₁ out₂ from m e g o same same₂ begins adds rest pre fi
     let h₁' = subst (λ (l : List ℕ). Holds out₁ l m) (sym (append_assoc pre (before L) (0 ∷ []))) h₁ in
     let set = empty-set out₁ (pre ++ before L) m h₁' in
     let h₂ = adds (pre ++ before L) [] f.x f.y f.z (words f.tail) refl (omega arith) f.written set (omega arith) in
-    let flat : (pre ++ before L) ++ nodeBytes (patternSet (p ∷ [])) ≡ pre ++ N =
-    append_assoc pre (before L) (nodeBytes (patternSet (p ∷ []))) ∙ ap (λ (l : List ℕ). pre ++ l) (joined-set L p []) in
+    let flat : (pre ++ before L) ++ node_bytes (pattern_set (p ∷ [])) ≡ pre ++ N =
+    append_assoc pre (before L) (node_bytes (pattern_set (p ∷ []))) ∙ ap (λ (l : List ℕ). pre ++ l) (joined-set L p []) in
     let h₃ = subst (λ (l : List ℕ). Holds out₂ l e) flat h₂ in
     let size₃ = h₃.size in
     let one = set-size (p ∷ []) in
-    let wide₄ = length-append (pre ++ before L) (nodeBytes (patternSet (p ∷ []))) in
+    let wide₄ = length-append (pre ++ before L) (node_bytes (pattern_set (p ∷ []))) in
     let on = words-on t _ g.next 3 f.written in
     record {
       start = start;
@@ -142,14 +142,14 @@ triple-new t out out₁ out₂ from m e g o same same₂ begins adds rest pre fi
 
 gathered-more :
     (left : Node) (run : List Pattern) (p : Pattern) (later : List Item) → (length run ≡ 15 → ⊥)
-    → gathered left (run ++ (p ∷ [])) later ≡ gathered left run (aTriple p ∷ later)
+    → gathered left (run ++ (p ∷ [])) later ≡ gathered left run (a_triple p ∷ later)
 unfolding gathered
 gathered-more left run p later e = sym (rw (ne_eqb (length run) 15 e))
 
 -- a set that is not empty
 joined-run :
     (x : Node) (run : List Pattern) → 1 ≤ length run
-    → before x ++ nodeBytes (patternSet run) ≡ nodeBytes (joined x (patternSet run))
+    → before x ++ node_bytes (pattern_set run) ≡ node_bytes (joined x (pattern_set run))
 joined-run x [] h = absurd (omega arith)
 joined-run x (p ∷ ps) h = joined-set x p ps
 
@@ -160,24 +160,24 @@ pub triple-more :
 triple-more t out out₁ from e g o l same adds rest pre final w s =
     let idle = stage-items t rest final from pre out g s (λ c. omega arith) in
     let f = front t rest g.next s.items (triple-at t g.next s.items rest w (items-walks idle.0)) in
-    let p = patternOf f.x f.y f.z in
+    let p = pattern_of f.x f.y f.z in
     let x = s.left in
     let run = s.run in
     let run' = run ++ (p ∷ []) in
-    let N = nodeBytes (joined x (patternSet run')) in
+    let N = node_bytes (joined x (pattern_set run')) in
     let start = s.start in
     let held = stage-holds t rest final from pre out g s idle.1 in
     let size = held.size in
     let room = s.room in
     let count = s.count in
     let words₁ = ap length f.written in
-    let words₂ = length-map f.tail tokenWord in
+    let words₂ = length-map f.tail token_word in
     let more = follows-longer _ _ _ f.follows in
     let long = length-append run (p ∷ []) in
-    let was : pre ++ nodeBytes (joined x (patternSet run)) ≡ (pre ++ before x) ++ nodeBytes (patternSet run) =
-    ap (λ (l : List ℕ). pre ++ l) (sym (joined-run x run (omega arith))) ∙ sym (append_assoc pre (before x) (nodeBytes (patternSet run))) in
-    let becomes : (pre ++ before x) ++ nodeBytes (patternSet run') ≡ pre ++ N =
-    append_assoc pre (before x) (nodeBytes (patternSet run')) ∙ ap (λ (l : List ℕ). pre ++ l) (joined-run x run' (omega arith)) in
+    let was : pre ++ node_bytes (joined x (pattern_set run)) ≡ (pre ++ before x) ++ node_bytes (pattern_set run) =
+    ap (λ (l : List ℕ). pre ++ l) (sym (joined-run x run (omega arith))) ∙ sym (append_assoc pre (before x) (node_bytes (pattern_set run))) in
+    let becomes : (pre ++ before x) ++ node_bytes (pattern_set run') ≡ pre ++ N =
+    append_assoc pre (before x) (node_bytes (pattern_set run')) ∙ ap (λ (l : List ℕ). pre ++ l) (joined-run x run' (omega arith)) in
     let held' = subst (λ (l : List ℕ). Holds out l g.len) was held in
     let size' = held'.size in
     let h = adds (pre ++ before x) run f.x f.y f.z (words f.tail) count (omega arith) f.written held' (omega arith) in
@@ -202,7 +202,7 @@ triple-more t out out₁ from e g o l same adds rest pre final w s =
       room = omega (
         arith,
         ap length on,
-        length-append (pre ++ before x) (nodeBytes (patternSet run)),
-        length-append (pre ++ before x) (nodeBytes (patternSet run')),
+        length-append (pre ++ before x) (node_bytes (pattern_set run)),
+        length-append (pre ++ before x) (node_bytes (pattern_set run')),
       );
     }

@@ -2,17 +2,17 @@
 -- buffer holds; and what the functions promise that take it on. Assumes nothing.
 use Rattle.std.specs.Prelude.{◌≡◌, true, cond, ◌||◌, List, [], ◌∷◌, ◌++◌, ℕ, ◌+◌, ◌*◌, ◌≤◌, ◌<◌, eqb, length, drop, get_or}
 use Rattle.std.proofs.Math.Option.{Option, none, some}
-use Rattle.tsparql.specs.Query.{Pattern, Node, patternSet, union}
-use Rattle.tsparql.specs.Writing.{nodeBytes}
+use Rattle.tsparql.specs.Query.{Pattern, Node, pattern_set, union}
+use Rattle.tsparql.specs.Writing.{node_bytes}
 use Rattle.grammar.specs.Tokens.{Token}
-use Rattle.grammar.specs.Grammar.{Body, bodyTokens, Unions, unionsTokens}
-use Rattle.grammar.specs.Meaning.{Item, aGroup, joined, gathered, groupNode, items, united}
+use Rattle.grammar.specs.Grammar.{Body, body_tokens, Unions, unions_tokens}
+use Rattle.grammar.specs.Meaning.{Item, a_group, joined, gathered, group_node, items, united}
 use Rattle.blocks.specs.Blocks.{Holds}
 use Rattle.words.specs.Words.{words}
 use Rattle.clauses.specs.declared.Block.{Block}
 use Rattle.groups.specs.Items.{Items, Follows}
-use Rattle.groups.specs.Passes.{BodyAt, gatheredBytes}
-use Rattle.parser.specs.Sets.{pendingBytes}
+use Rattle.groups.specs.Passes.{BodyAt, gathered_bytes}
+use Rattle.parser.specs.Sets.{pending_bytes}
 use Rattle.parser.specs.declared.Stage.{Stage}
 
 -- ---- what is to come
@@ -23,8 +23,8 @@ pub record Uniting (u : Node) (ws : List ℕ) (is : List Item) (rest : List Toke
   pub unions : Unions
   pub tail : List Token
   pub later : List Item
-  pub written : ws ≡ 85 ∷ 123 ∷ words (bodyTokens inner (unionsTokens unions tail))
-  pub means : is ≡ aGroup (united (union u (groupNode (items inner))) unions) ∷ later
+  pub written : ws ≡ 85 ∷ 123 ∷ words (body_tokens inner (unions_tokens unions tail))
+  pub means : is ≡ a_group (united (union u (group_node (items inner))) unions) ∷ later
   pub follows : Follows tail later rest
 
 -- so it is where an operand waits; else items are to come
@@ -47,8 +47,8 @@ pub record Stands (t : List ℕ) (rest : List Token) (final : Node) (from : ℕ)
   pub coming : Coming pending (drop g.next t) items rest
   pub yields : gathered left run items ≡ final
   pub closed : Closed pending run
-  pub holds : Holds out (pre ++ (nodeBytes (joined left (patternSet run)) ++ pendingBytes pending)) g.len
-  pub middle : g.mid ≡ length pre + length (nodeBytes (joined left (patternSet run)))
+  pub holds : Holds out (pre ++ (node_bytes (joined left (pattern_set run)) ++ pending_bytes pending)) g.len
+  pub middle : g.mid ≡ length pre + length (node_bytes (joined left (pattern_set run)))
   pub count : g.run ≡ length run
   pub few : length run ≤ 15
   pub room : g.len + 4 * length (drop g.next t) ≤ length out + 4 * length rest + 1
@@ -60,11 +60,11 @@ abbrev pub Gathers : List ℕ → ℕ → ℕ → List ℕ → List ℕ → Bloc
 Gathers t at from out out' b =
     (g : Body true) (rest : List Token) (pre : List ℕ) → BodyAt t at g rest → Holds out pre from
     → from + 4 * length (drop at t) ≤ length out + 4 * length rest
-    → (drop b.next t ≡ words rest) × Holds out' (pre ++ gatheredBytes g) b.len
+    → (drop b.next t ≡ words rest) × Holds out' (pre ++ gathered_bytes g) b.len
 
 -- the body of a group whose first word is w at i: behind '{', and behind the brace that follows OPTIONAL or UNION; else i
-abbrev pub bodyPlace : ℕ → ℕ → ℕ
-bodyPlace w i = cond (eqb w 123) (i + 1) (cond (eqb w 79 || eqb w 85) (i + 2) i)
+abbrev pub body_place : ℕ → ℕ → ℕ
+body_place w i = cond (eqb w 123) (i + 1) (cond (eqb w 79 || eqb w 85) (i + 2) i)
 
 -- the gathering goes on over a triple
 abbrev pub Triples : List ℕ → ℕ → List ℕ → List ℕ → Stage → Stage → Type 0
@@ -76,12 +76,12 @@ Triples t from out out' g r =
 abbrev pub Passes : List ℕ → ℕ → List ℕ → List ℕ → Stage → Stage → Type 0
 Passes t from out out' g r =
     (rest : List Token) (pre : List ℕ) (final : Node) → (get_or t g.next 0 ≡ 125 → ⊥)
-    → (g.next < bodyPlace (get_or t g.next 0) g.next → ⊥)
+    → (g.next < body_place (get_or t g.next 0) g.next → ⊥)
     → Stands t rest final from pre out g → Stands t rest final from pre out' r
 
 -- and over a group, whose body begins at a, and what is joined in which was written behind the stage's bytes, in a buffer as long
 abbrev pub Closes : List ℕ → ℕ → ℕ → List ℕ → List ℕ → Stage → Block → Stage → Type 0
 Closes t a from out out' g b r =
-    (rest : List Token) (pre out₀ : List ℕ) (final : Node) → g.next < a → a ≡ bodyPlace (get_or t g.next 0) g.next
+    (rest : List Token) (pre out₀ : List ℕ) (final : Node) → g.next < a → a ≡ body_place (get_or t g.next 0) g.next
     → length out ≡ length out₀ → Stands t rest final from pre out₀ g → Gathers t a g.len out₀ out b
     → Stands t rest final from pre out' r

@@ -4,8 +4,8 @@
 ghost use Rattle.std.specs.Prelude.{◌||◌, ◌≡◌, ◌≤◌, ◌<◌, eqb, leb, length, get_or, set};
 ghost use Rattle.blocks.specs.Buffers.{buffer, appended};
 ghost use Rattle.words.specs.Links.{Linked};
-ghost use Rattle.parser.specs.Sets.{Unites, Joins, Begins, slotBytes, Adds};
-ghost use Rattle.parser.specs.Stages.{bodyPlace, Triples, Passes, Closes, Gathers};
+ghost use Rattle.parser.specs.Sets.{Unites, Joins, Begins, slot_bytes, Adds};
+ghost use Rattle.parser.specs.Stages.{body_place, Triples, Passes, Closes, Gathers};
 
 use blocks::{append, append3, exchange, put};
 use clauses::Block;
@@ -74,7 +74,7 @@ const VARIABLE_SLOT: u32 = 1048576;
 
 // A slot behind the end.
 fn slot(t: &[u32], i: usize, out: &mut [u8], n: usize) -> usize
-    ensures { buffer out.new result ≡ appended (buffer out.old n) (slotBytes (get_or t.now i 0)) }
+    ensures { buffer out.new result ≡ appended (buffer out.old n) (slot_bytes (get_or t.now i 0)) }
 {
     let x = word(t, i);
     if x < FIRST_NUMBER {
@@ -220,7 +220,7 @@ fn close(
 // Where the body of the group begins that begins at a place; the place itself where none does.
 fn body_place(t: &[u32], i: usize) -> usize
     requires { i < length t.now }
-    ensures { result ≡ bodyPlace (get_or t.now i 0) i }
+    ensures { result ≡ body_place (get_or t.now i 0) i }
 {
     let w = t[i];
     if w == LBRACE {

@@ -8,91 +8,91 @@ use native.Mathlib.Omega.{arith}
 use borrow.Author.Tests.{ne_eqb, eqb-false, leb-true, ltb-true}
 use lib.Dec.{eqb, leb, ltb}
 use lib.ListN.{length, get_or, drop}
-use Rattle.tsparql.specs.Query.{Condition, same, less, isTerm, negation, conjunction, disjunction, always}
-use Rattle.tsparql.specs.Reading.{Read, got, fault, and_then, require, kind_of, low_of, bits24, termSound, conditionStep, readCondition}
+use Rattle.tsparql.specs.Query.{Condition, same, less, is_term, negation, conjunction, disjunction, always}
+use Rattle.tsparql.specs.Reading.{Read, got, fault, and_then, require, kind_of, low_of, bits24, term_sound, condition_step, read_condition}
 use Rattle.tsparql.proofs.ListLaws.{and_right, and_left}
-use Rattle.tsparql.proofs.ReaderSteps.{readCondition-step}
-use Rattle.tsparql.proofs.WrittenRead.{readCondition-sound}
+use Rattle.tsparql.proofs.ReaderSteps.{read_condition-step}
+use Rattle.tsparql.proofs.WrittenRead.{read_condition-sound}
 use Rattle.tsparql.specs.WellFormed.{ConditionFormed}
-use Rattle.tsparql.specs.Writing.{conditionBytes}
+use Rattle.tsparql.specs.Writing.{condition_bytes}
 use Rattle.heads.specs.declared.ConditionHead.{ConditionHead}
 use Rattle.heads.specs.declared.ConditionHead.TheVariants as C
-use Rattle.heads.specs.Parts.{second_of, termOf, pairHead, termHead, connective, conditionHeadRead, conditionOperands}
-use Rattle.query.specs.Answers.{conditionHead}
-use Rattle.query.specs.Parts.{mapRead, follow, conditionsFrom}
+use Rattle.heads.specs.Parts.{second_of, term_of, pair_head, term_head, connective, condition_head_read, condition_operands}
+use Rattle.query.specs.Answers.{condition_head}
+use Rattle.query.specs.Parts.{map_read, follow, conditions_from}
 use Rattle.query.proofs.ReadLaws.{place_of, by_kind, no_kind, cond_cases, require-cases, one-part, two-parts}
 use Rattle.query.proofs.ReadLaws.{from-fault, from_next, reads-inside}
 
 -- the operands of a head, behind its own bytes
-abbrev pub conditionsAfter : List ℕ → ConditionHead → ℕ → Read (Unit {0})
-conditionsAfter s h own = conditionsFrom (conditionOperands h) own s
+abbrev pub conditions_after : List ℕ → ConditionHead → ℕ → Read (Unit {0})
+conditions_after s h own = conditions_from (condition_operands h) own s
 
 -- a head with the place behind its operands
-abbrev pub operandsOf : List ℕ → ConditionHead → ℕ → Read ConditionHead
-operandsOf s h own = mapRead (λ _. h) (conditionsAfter s h own)
+abbrev pub operands_of : List ℕ → ConditionHead → ℕ → Read ConditionHead
+operands_of s h own = map_read (λ _. h) (conditions_after s h own)
 
 -- ---- the leaves
 
-pair_parts : (s : List ℕ) (n : ℕ) (isSame : Bool) (f : ℕ → ℕ → Condition)
-    → ((v w : ℕ) → conditionHead (f v w) ≡ cond isSame (C.Same v w) (C.Less v w))
-    → ((v w : ℕ) → conditionOperands (cond isSame (C.Same v w) (C.Less v w)) ≡ 0)
-    → mapRead conditionHead (require (leb 2 (length s) && ltb (get_or s 1 0) 16) (got (f n (get_or s 1 0)) 2))
-    ≡ follow (pairHead s n isSame) (operandsOf s)
-unfolding conditionsFrom
-pair_parts s n isSame f h z = go (leb 2 (length s) && ltb (get_or s 1 0) 16) refl
+pair_parts : (s : List ℕ) (n : ℕ) (is_same : Bool) (f : ℕ → ℕ → Condition)
+    → ((v w : ℕ) → condition_head (f v w) ≡ cond is_same (C.Same v w) (C.Less v w))
+    → ((v w : ℕ) → condition_operands (cond is_same (C.Same v w) (C.Less v w)) ≡ 0)
+    → map_read condition_head (require (leb 2 (length s) && ltb (get_or s 1 0) 16) (got (f n (get_or s 1 0)) 2))
+    ≡ follow (pair_head s n is_same) (operands_of s)
+unfolding conditions_from
+pair_parts s n is_same f h z = go (leb 2 (length s) && ltb (get_or s 1 0) 16) refl
   where
     go : (b : Bool) → leb 2 (length s) && ltb (get_or s 1 0) 16 ≡ b
-        → mapRead conditionHead (require b (got (f n (get_or s 1 0)) 2))
+        → map_read condition_head (require b (got (f n (get_or s 1 0)) 2))
         ≡ follow (require (ltb (cond b (get_or s 1 0) 16) 16)
-        (got (cond isSame (C.Same n (cond b (get_or s 1 0) 16)) (C.Less n (cond b (get_or s 1 0) 16))) 2)) (operandsOf s)
+        (got (cond is_same (C.Same n (cond b (get_or s 1 0) 16)) (C.Less n (cond b (get_or s 1 0) 16))) 2)) (operands_of s)
     go true e = rw (and_right (leb 2 (length s)) (ltb (get_or s 1 0) 16) e, z n (get_or s 1 0), h n (get_or s 1 0))
     go false e = refl
 
-term-positive : (x : ℕ) → termSound x ≡ true → eqb x 0 ≡ false
+term-positive : (x : ℕ) → term_sound x ≡ true → eqb x 0 ≡ false
 term-positive x e = ne_eqb x 0 (λ z. omega (arith, ltb-true 0 x (and_left (ltb 0 x) (ltb x 1048576) e)))
 
 term-parts : (s : List ℕ) (n : ℕ)
-    → mapRead conditionHead (require (leb 4 (length s) && termSound (bits24 s 1)) (got (isTerm n (bits24 s 1)) 4))
-    ≡ follow (termHead s n) (operandsOf s)
-unfolding conditionsFrom
-term-parts s n = go (leb 4 (length s) && termSound (bits24 s 1)) refl
+    → map_read condition_head (require (leb 4 (length s) && term_sound (bits24 s 1)) (got (is_term n (bits24 s 1)) 4))
+    ≡ follow (term_head s n) (operands_of s)
+unfolding conditions_from
+term-parts s n = go (leb 4 (length s) && term_sound (bits24 s 1)) refl
   where
-    go : (b : Bool) → leb 4 (length s) && termSound (bits24 s 1) ≡ b
-        → mapRead conditionHead (require b (got (isTerm n (bits24 s 1)) 4))
-        ≡ follow (require (not (eqb (cond b (bits24 s 1) 0) 0)) (got (C.IsTerm n (cond b (bits24 s 1) 0)) 4)) (operandsOf s)
-    go true e = rw (term-positive (bits24 s 1) (and_right (leb 4 (length s)) (termSound (bits24 s 1)) e))
+    go : (b : Bool) → leb 4 (length s) && term_sound (bits24 s 1) ≡ b
+        → map_read condition_head (require b (got (is_term n (bits24 s 1)) 4))
+        ≡ follow (require (not (eqb (cond b (bits24 s 1) 0) 0)) (got (C.IsTerm n (cond b (bits24 s 1) 0)) 4)) (operands_of s)
+    go true e = rw (term-positive (bits24 s 1) (and_right (leb 4 (length s)) (term_sound (bits24 s 1)) e))
     go false e = refl
 
 -- ---- operands
 
-one-operand : (s : List ℕ) (b : Bool) (f : Condition → Condition) (h : ConditionHead) → ((c : Condition) → conditionHead (f c) ≡ h)
-    → conditionOperands h ≡ 1
-    → mapRead conditionHead (require b (and_then 1 (readCondition (drop 1 s)) (λ c next. got (f c) next)))
-    ≡ follow (require b (got h 1)) (operandsOf s)
-unfolding conditionsFrom
-one-operand s true f h e n = rw n (one-part conditionHead h 1 f e (readCondition (drop 1 s)))
+one-operand : (s : List ℕ) (b : Bool) (f : Condition → Condition) (h : ConditionHead) → ((c : Condition) → condition_head (f c) ≡ h)
+    → condition_operands h ≡ 1
+    → map_read condition_head (require b (and_then 1 (read_condition (drop 1 s)) (λ c next. got (f c) next)))
+    ≡ follow (require b (got h 1)) (operands_of s)
+unfolding conditions_from
+one-operand s true f h e n = rw n (one-part condition_head h 1 f e (read_condition (drop 1 s)))
 one-operand s false f h e n = refl
 
 two_operands : (s : List ℕ) (b : Bool) (f : Condition → Condition → Condition) (h : ConditionHead)
-    → ((c d : Condition) → conditionHead (f c d) ≡ h) → conditionOperands h ≡ 2
-    → mapRead conditionHead
+    → ((c d : Condition) → condition_head (f c d) ≡ h) → condition_operands h ≡ 2
+    → map_read condition_head
     (require b
-    (and_then 1 (readCondition (drop 1 s))
-    (λ c at. and_then at (readCondition (drop at s)) (λ d next. got (f c d) next))))
-    ≡ follow (require b (got h 1)) (operandsOf s)
-unfolding conditionsFrom
-two_operands s true f h e n = rw n (two-parts conditionHead h (λ at. readCondition (drop at s)) 1 f e (readCondition (drop 1 s)))
+    (and_then 1 (read_condition (drop 1 s))
+    (λ c at. and_then at (read_condition (drop at s)) (λ d next. got (f c d) next))))
+    ≡ follow (require b (got h 1)) (operands_of s)
+unfolding conditions_from
+two_operands s true f h e n = rw n (two-parts condition_head h (λ at. read_condition (drop at s)) 1 f e (read_condition (drop 1 s)))
 two_operands s false f h e n = refl
 
 -- ---- the reader
 
 -- the head, and then its operands
-pub condition-parts : (s : List ℕ) → mapRead conditionHead (readCondition s) ≡ follow (conditionHeadRead s) (operandsOf s)
-unfolding conditionStep conditionHeadRead conditionsFrom
-condition-parts s = ap (mapRead conditionHead) (readCondition-step s) ∙ go (eqb (length s) 0) refl
+pub condition-parts : (s : List ℕ) → map_read condition_head (read_condition s) ≡ follow (condition_head_read s) (operands_of s)
+unfolding condition_step condition_head_read conditions_from
+condition-parts s = ap (map_read condition_head) (read_condition-step s) ∙ go (eqb (length s) 0) refl
   where
     go : (b : Bool) → eqb (length s) 0 ≡ b
-        → mapRead conditionHead (conditionStep readCondition s) ≡ follow (conditionHeadRead s) (operandsOf s)
+        → map_read condition_head (condition_step read_condition s) ≡ follow (condition_head_read s) (operands_of s)
     go true e = rw e
     go false e =
         by_kind (kind_of s)
@@ -116,30 +116,30 @@ condition-parts s = ap (mapRead conditionHead) (readCondition-step s) ∙ go (eq
           no_kind k 7 (omega arith),
         ) (none (eqb (low_of s) 0)))
       where
-        last : (b : Bool) → mapRead conditionHead (require b (got always 1)) ≡ follow (require b (got C.True 1)) (operandsOf s)
+        last : (b : Bool) → map_read condition_head (require b (got always 1)) ≡ follow (require b (got C.True 1)) (operands_of s)
         last true = refl
         last false = refl
 
-        none : (b : Bool) → fault 0 ≡ follow (require b (fault 0)) (operandsOf s)
+        none : (b : Bool) → fault 0 ≡ follow (require b (fault 0)) (operands_of s)
         none true = refl
         none false = refl
 
 -- ---- places
 
 -- a reader's place is inside its part
-pub condition-inside : (s : List ℕ) → place_of (readCondition s) ≤ length s
-condition-inside s = reads-inside ConditionFormed conditionBytes s (readCondition s) (readCondition-sound s)
+pub condition-inside : (s : List ℕ) → place_of (read_condition s) ≤ length s
+condition-inside s = reads-inside ConditionFormed condition_bytes s (read_condition s) (read_condition-sound s)
 
 -- a head's own bytes are there, one at least, and it has two operands at most
 abbrev HeadInside : ℕ → Read ConditionHead → Type 0
-HeadInside n (got h own) = (1 ≤ own) × (own ≤ n) × (conditionOperands h ≤ 2)
+HeadInside n (got h own) = (1 ≤ own) × (own ≤ n) × (condition_operands h ≤ 2)
 HeadInside n (fault p) = Unit {0}
 
-pair_inside : (s : List ℕ) (n : ℕ) (isSame : Bool) → HeadInside (length s) (pairHead s n isSame)
-pair_inside s n isSame =
-    require-cases (HeadInside (length s)) (ltb (second_of s) 16) _ tt λ e. (omega arith, long e, few isSame)
+pair_inside : (s : List ℕ) (n : ℕ) (is_same : Bool) → HeadInside (length s) (pair_head s n is_same)
+pair_inside s n is_same =
+    require-cases (HeadInside (length s)) (ltb (second_of s) 16) _ tt λ e. (omega arith, long e, few is_same)
   where
-    few : (b : Bool) → conditionOperands (cond b (C.Same n (second_of s)) (C.Less n (second_of s))) ≤ 2
+    few : (b : Bool) → condition_operands (cond b (C.Same n (second_of s)) (C.Less n (second_of s))) ≤ 2
     few true = zero-le
     few false = zero-le
 
@@ -150,14 +150,14 @@ pair_inside s n isSame =
         go true d f = leb-true 2 (length s) (and_left (leb 2 (length s)) (ltb (get_or s 1 0) 16) d)
         go false d f = absurd (false≢true f)
 
-term-inside : (s : List ℕ) (n : ℕ) → HeadInside (length s) (termHead s n)
-term-inside s n = require-cases (HeadInside (length s)) (not (eqb (termOf s) 0)) _ tt λ e. (omega arith, long e, zero-le)
+term-inside : (s : List ℕ) (n : ℕ) → HeadInside (length s) (term_head s n)
+term-inside s n = require-cases (HeadInside (length s)) (not (eqb (term_of s) 0)) _ tt λ e. (omega arith, long e, zero-le)
   where
-    long : not (eqb (termOf s) 0) ≡ true → 4 ≤ length s
-    long e = go (leb 4 (length s) && termSound (bits24 s 1)) refl e
+    long : not (eqb (term_of s) 0) ≡ true → 4 ≤ length s
+    long e = go (leb 4 (length s) && term_sound (bits24 s 1)) refl e
       where
-        go : (b : Bool) → leb 4 (length s) && termSound (bits24 s 1) ≡ b → not (eqb (cond b (bits24 s 1) 0) 0) ≡ true → 4 ≤ length s
-        go true d f = leb-true 4 (length s) (and_left (leb 4 (length s)) (termSound (bits24 s 1)) d)
+        go : (b : Bool) → leb 4 (length s) && term_sound (bits24 s 1) ≡ b → not (eqb (cond b (bits24 s 1) 0) 0) ≡ true → 4 ≤ length s
+        go true d f = leb-true 4 (length s) (and_left (leb 4 (length s)) (term_sound (bits24 s 1)) d)
         go false d f = absurd (false≢true f)
 
 connective-inside : (n kind low : ℕ) → 1 ≤ n → HeadInside n (connective kind low)
@@ -171,8 +171,8 @@ connective-inside n kind low h =
     P : Read ConditionHead → Type 0
     P = HeadInside n
 
-head-inside : (s : List ℕ) → HeadInside (length s) (conditionHeadRead s)
-unfolding conditionHeadRead
+head-inside : (s : List ℕ) → HeadInside (length s) (condition_head_read s)
+unfolding condition_head_read
 head-inside s =
     cond_cases P (eqb (length s) 0) _ _ (λ _. tt)
     λ e. let long : 1 ≤ length s = omega (arith, eqb-false (length s) 0 e) in
@@ -185,19 +185,19 @@ head-inside s =
     P : Read ConditionHead → Type 0
     P = HeadInside (length s)
 
-pub condition-head-inside : (s : List ℕ) {h : ConditionHead} {own : ℕ} → conditionHeadRead s ≡ got h own
-    → (1 ≤ own) × (own ≤ length s) × (conditionOperands h ≤ 2)
+pub condition-head-inside : (s : List ℕ) {h : ConditionHead} {own : ℕ} → condition_head_read s ≡ got h own
+    → (1 ≤ own) × (own ≤ length s) × (condition_operands h ≤ 2)
 condition-head-inside s e = rw e at (head-inside s)
 
 -- ---- the code's steps
 
 -- the next of n conditions faults, or leaves those behind it
-pub conditions-fault : (s : List ℕ) (n at p : ℕ) → 1 ≤ n → mapRead conditionHead (readCondition (drop at s)) ≡ fault p
-    → conditionsFrom n at s ≡ fault (at + p)
-unfolding conditionsFrom
-conditions-fault = from-fault conditionHead readCondition conditionsFrom (λ n at s. refl)
+pub conditions-fault : (s : List ℕ) (n at p : ℕ) → 1 ≤ n → map_read condition_head (read_condition (drop at s)) ≡ fault p
+    → conditions_from n at s ≡ fault (at + p)
+unfolding conditions_from
+conditions-fault = from-fault condition_head read_condition conditions_from (λ n at s. refl)
 
-pub conditions-next : (s : List ℕ) (n at k : ℕ) (h : ConditionHead) → 1 ≤ n → mapRead conditionHead (readCondition (drop at s)) ≡ got h k
-    → conditionsFrom n at s ≡ conditionsFrom (n - 1) (at + k) s
-unfolding conditionsFrom
-conditions-next = from_next conditionHead readCondition conditionsFrom (λ n at s. refl)
+pub conditions-next : (s : List ℕ) (n at k : ℕ) (h : ConditionHead) → 1 ≤ n → map_read condition_head (read_condition (drop at s)) ≡ got h k
+    → conditions_from n at s ≡ conditions_from (n - 1) (at + k) s
+unfolding conditions_from
+conditions-next = from_next condition_head read_condition conditions_from (λ n at s. refl)

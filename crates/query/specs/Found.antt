@@ -2,8 +2,8 @@
 -- Assumes nothing.
 use Rattle.std.specs.Prelude.{List, [], ℕ, drop}
 use Rattle.tsparql.specs.Query.{Pattern, Node}
-use Rattle.tsparql.specs.Reading.{Read, got, fault, readPatterns, read_node, readQuery, foundNode}
-use Rattle.query.specs.Parts.{placed, ownRead}
+use Rattle.tsparql.specs.Reading.{Read, got, fault, read_patterns, read_node, read_query, found_node}
+use Rattle.query.specs.Parts.{placed, own_read}
 
 -- something was found
 abbrev pub IsGot : {A : Type 0} → Read A → Type 0
@@ -12,12 +12,12 @@ IsGot (fault p) = ⊥
 
 -- n patterns stand from a place on
 abbrev pub PatternsSound : ℕ → ℕ → List ℕ → Type 0
-PatternsSound n at s = IsGot (readPatterns n (drop at s))
+PatternsSound n at s = IsGot (read_patterns n (drop at s))
 
 -- the patterns that were found
-abbrev pub foundPatterns : Read (List Pattern) → List Pattern
-foundPatterns (got ps n) = ps
-foundPatterns (fault p) = []
+abbrev pub found_patterns : Read (List Pattern) → List Pattern
+found_patterns (got ps n) = ps
+found_patterns (fault p) = []
 
 -- the part starts with a node
 abbrev pub NodeSound : List ℕ → Type 0
@@ -25,12 +25,12 @@ NodeSound s = IsGot (read_node s)
 
 -- the node that the part starts with
 abbrev pub node_of : List ℕ → Node
-node_of s = foundNode (read_node s)
+node_of s = found_node (read_node s)
 
 -- the place behind a head and its patterns or condition
-abbrev pub nextNode : List ℕ → Read (Unit {0})
-nextNode s = placed (ownRead s)
+abbrev pub next_node : List ℕ → Read (Unit {0})
+next_node s = placed (own_read s)
 
 -- the query has no fault
 abbrev pub QuerySound : List ℕ → Type 0
-QuerySound s = IsGot (readQuery s)
+QuerySound s = IsGot (read_query s)

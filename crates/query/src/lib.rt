@@ -1,11 +1,11 @@
 // Readers of a query: conditions and nodes with their operands. A reader is given the part of the query from there on, and
 // answers what it read with the next place, or where the fault is, both counted from the part's start.
 ghost use Rattle.std.specs.Prelude.{◌≡◌, ◌≤◌, length};
-ghost use Rattle.tsparql.specs.Reading.{readCondition, read_node};
-ghost use Rattle.heads.specs.Answers.{conditionFound, nodeFound, faultIn, patternCount};
-ghost use Rattle.query.specs.Answers.{conditionHead, nodeHead, placeFound};
-ghost use Rattle.query.specs.Parts.{mapRead, conditionsFrom, patternsFrom, beforeOperands, ownRead, nodesFrom};
-ghost use Rattle.query.specs.Found.{nextNode};
+ghost use Rattle.tsparql.specs.Reading.{read_condition, read_node};
+ghost use Rattle.heads.specs.Answers.{condition_found, node_found, fault_in, pattern_count};
+ghost use Rattle.query.specs.Answers.{condition_head, node_head, place_found};
+ghost use Rattle.query.specs.Parts.{map_read, conditions_from, patterns_from, before_operands, own_read, nodes_from};
+ghost use Rattle.query.specs.Found.{next_node};
 
 use heads::{
     ConditionRead, Head, NodeRead, condition_fault, condition_operands, node_fault, node_operands,
@@ -21,7 +21,7 @@ pub enum Place {
 }
 
 fn place_fault(r: Place) -> usize
-    ensures { result ≡ faultIn (placeFound r) }
+    ensures { result ≡ fault_in (place_found r) }
 {
     match r {
         Place::At(_) => 0,
@@ -34,7 +34,7 @@ fn place_fault(r: Place) -> usize
 // The condition that a part starts with, and the place behind its last operand.
 #[cycle(read_condition_read_conditions)]
 pub fn read_condition(q: &[u8]) -> ConditionRead
-    ensures { conditionFound result ≡ mapRead conditionHead (readCondition q.now) }
+    ensures { condition_found result ≡ map_read condition_head (read_condition q.now) }
 {
     let h = read_condition_head(q);
     let ConditionRead::Condition(head, own) = h else {
@@ -52,7 +52,7 @@ pub fn read_condition(q: &[u8]) -> ConditionRead
 #[cycle(read_condition_read_conditions)]
 fn read_conditions(q: &[u8], at: usize, n: u8) -> Place
     requires { (1 ≤ at) × (at ≤ length q.now) × (n ≤ 2) }
-    ensures { placeFound result ≡ conditionsFrom n at q.now }
+    ensures { place_found result ≡ conditions_from n at q.now }
 {
     if n == 0 {
         return Place::At(at);
@@ -68,7 +68,7 @@ fn read_conditions(q: &[u8], at: usize, n: u8) -> Place
 
 // How many patterns a pattern set has; other heads have none.
 pub fn pattern_count(h: Head) -> u8
-    ensures { result ≡ patternCount h }
+    ensures { result ≡ pattern_count h }
 {
     match h {
         Head::PatternSet(n) => n,
@@ -84,7 +84,7 @@ pub fn pattern_count(h: Head) -> u8
 // The place behind n patterns from a place on.
 fn read_patterns(q: &[u8], at: usize, n: u8) -> Place
     requires { at ≤ length q.now }
-    ensures { placeFound result ≡ patternsFrom n at q.now }
+    ensures { place_found result ≡ patterns_from n at q.now }
 {
     let mut p = at;
     let mut left = n;
@@ -102,7 +102,7 @@ fn read_patterns(q: &[u8], at: usize, n: u8) -> Place
 // The place of a node's operands: behind its head's own bytes and its patterns or condition.
 fn before_operands(q: &[u8], h: Head, own: usize) -> Place
     requires { (1 ≤ own) × (own ≤ length q.now) }
-    ensures { placeFound result ≡ beforeOperands q.now h own }
+    ensures { place_found result ≡ before_operands q.now h own }
 {
     match h {
         Head::PatternSet(n) => read_patterns(q, own, n),
@@ -117,7 +117,7 @@ fn before_operands(q: &[u8], h: Head, own: usize) -> Place
 
 // The head of the node that a part starts with, and the place of its operands.
 pub fn read_own(q: &[u8]) -> NodeRead
-    ensures { nodeFound result ≡ ownRead q.now }
+    ensures { node_found result ≡ own_read q.now }
 {
     let h = read_head(q);
     let NodeRead::Node(head, own) = h else {
@@ -133,7 +133,7 @@ pub fn read_own(q: &[u8]) -> NodeRead
 // The node that a part starts with, and the place behind its last operand.
 #[cycle(read_node_read_nodes)]
 pub fn read_node(q: &[u8]) -> NodeRead
-    ensures { nodeFound result ≡ mapRead nodeHead (read_node q.now) }
+    ensures { node_found result ≡ map_read node_head (read_node q.now) }
 {
     let h = read_own(q);
     let NodeRead::Node(head, at) = h else {
@@ -151,7 +151,7 @@ pub fn read_node(q: &[u8]) -> NodeRead
 #[cycle(read_node_read_nodes)]
 fn read_nodes(q: &[u8], at: usize, n: u8) -> Place
     requires { (1 ≤ at) × (at ≤ length q.now) × (n ≤ 2) }
-    ensures { placeFound result ≡ nodesFrom n at q.now }
+    ensures { place_found result ≡ nodes_from n at q.now }
 {
     if n == 0 {
         return Place::At(at);
@@ -165,7 +165,7 @@ fn read_nodes(q: &[u8], at: usize, n: u8) -> Place
 
 // The place of the next node in prefix order, or that of a fault before it.
 pub fn next_node(q: &[u8]) -> Place
-    ensures { placeFound result ≡ nextNode q.now }
+    ensures { place_found result ≡ next_node q.now }
 {
     let h = read_own(q);
     let NodeRead::Node(_, behind) = h else {

@@ -7,23 +7,23 @@ use Prim.Native.Nat.{ℕ, ◌*◌, ◌≤◌}
 use native.Mathlib.Omega.{arith}
 use lib.ListN.{length, take}
 use lib.Seq.{take_at}
-use Rattle.tsparql.specs.Lists.{Every, concatMap}
+use Rattle.tsparql.specs.Lists.{Every, concat_map}
 use Rattle.tsparql.specs.Values.{Row}
 use Rattle.tsparql.specs.Query.{Node}
-use Rattle.tsparql.specs.Table.{Fact, View, wholeTable, factsIn}
-use Rattle.tsparql.specs.Reading.{queryNode}
-use Rattle.tsparql.specs.PatternSets.{Aggregate, Aggregation, aggregate, setRows, rowsOver}
+use Rattle.tsparql.specs.Table.{Fact, View, whole_table, facts_in}
+use Rattle.tsparql.specs.Reading.{query_node}
+use Rattle.tsparql.specs.PatternSets.{Aggregate, Aggregation, aggregate, set_rows, rows_over}
 use Rattle.tsparql.specs.WellFormed.{Bytes}
 use Rattle.tsparql.specs.Check.{Passes, check}
-use Rattle.tsparql.specs.Evaluate.{rowLength, rowWords, answer, answeredWith}
-use Rattle.tsparql.specs.Calls.{evaluateUntallied}
+use Rattle.tsparql.specs.Evaluate.{row_length, row_words, answer, answered_with}
+use Rattle.tsparql.specs.Calls.{evaluate_untallied}
 use Rattle.tsparql.proofs.SpaceLaws.{count-space-≤}
 use Rattle.tsparql.proofs.TableLaws.{facts-sound}
 use Rattle.tsparql.proofs.MeanLaws.{aggregate-sound}
 use Rattle.tsparql.proofs.QueryLaws.{check-parts}
 use Rattle.tsparql.proofs.EvaluateLaws.{answer-fits, answer-passes, evaluate-answered}
-use Rattle.rows.specs.RowWords.{rowsIn, RowFormed, RowsHeld, Front}
-use Rattle.rows.proofs.RowWordLaws.{rowsIn-written, length-written, front-rows, front-held}
+use Rattle.rows.specs.RowWords.{rows_in, RowFormed, RowsHeld, Front}
+use Rattle.rows.proofs.RowWordLaws.{rows_in-written, length-written, front-rows, front-held}
 use Rattle.query.specs.Found.{node_of}
 use Rattle.patterns.proofs.RecordLaws.{facts-formed}
 use Rattle.evaluation.specs.Evaluations.{Answers}
@@ -37,27 +37,27 @@ use Rattle.randwyler.proofs.Evaluations.{ready-seen, ready-node}
 
 module _ (g : Aggregation) (v : View) (t s : List ℕ) (ready : Ready v t s) where
   -- the answer is that of the query's tree
-  pub ready-answers : {words : ℕ} {out : List ℕ} {r : QueryRows} → Answers (aggregate g) (factsIn v t) (node_of s) words out r
-      → Answers (aggregate g) (factsIn v t) (queryNode s) words out r
+  pub ready-answers : {words : ℕ} {out : List ℕ} {r : QueryRows} → Answers (aggregate g) (facts_in v t) (node_of s) words out r
+      → Answers (aggregate g) (facts_in v t) (query_node s) words out r
   ready-answers {words} {out} {r} a =
-      subst (λ (q : Node). Answers (aggregate g) (factsIn v t) q words out r) (ready-node v t s ready).1 a
+      subst (λ (q : Node). Answers (aggregate g) (facts_in v t) q words out r) (ready-node v t s ready).1 a
 
-  pub ready-formed : Bytes t → Every RowFormed (rowsOver (aggregate g) (factsIn v t) (queryNode s))
+  pub ready-formed : Bytes t → Every RowFormed (rows_over (aggregate g) (facts_in v t) (query_node s))
   ready-formed bytes =
-      rows-formed (aggregate g) (aggregate-sound g) (factsIn v t) (facts-formed v t (ready-seen v t s ready) bytes)
-      (facts-sound v t (check-parts t s ready.passed).0) (queryNode s)
+      rows-formed (aggregate g) (aggregate-sound g) (facts_in v t) (facts-formed v t (ready-seen v t s ready) bytes)
+      (facts-sound v t (check-parts t s ready.passed).0) (query_node s)
 
 -- ---- the rows
 
 module _ {g : Aggregate} {fs : List Fact} {q : Node} {words : ℕ} {out : List ℕ} {n p k : ℕ}
-    (formed : Every RowFormed (rowsOver g fs q)) (a : Answers g fs q words out (Q.Rows n p k)) where
+    (formed : Every RowFormed (rows_over g fs q)) (a : Answers g fs q words out (Q.Rows n p k)) where
   abbrev rs : List Row
-  rs = rowsOver g fs q
+  rs = rows_over g fs q
 
   passed : Passes (answer g fs q words).refusal
   passed = ap (λ e. e.refusal.number) (sym a.answer-is)
 
-  answered-is : answer g fs q words ≡ answeredWith g fs q words
+  answered-is : answer g fs q words ≡ answered_with g fs q words
   answered-is = answer-fits g fs q words (answer-passes g fs q words passed)
 
   pub answered-count : n ≡ length rs
@@ -65,14 +65,14 @@ module _ {g : Aggregate} {fs : List Fact} {q : Node} {words : ℕ} {out : List �
 
   pub answered-few : n ≤ 65535
   answered-few =
-      omega (arith, answered-count, count-space-≤ (setRows g fs) q, answer-passes g fs q words passed)
+      omega (arith, answered-count, count-space-≤ (set_rows g fs) q, answer-passes g fs q words passed)
 
   front : Front rs out
   front =
-      ap (take (rowLength * length rs)) (ap (λ e. e.rowSpace) (a.answer-is ∙ answered-is))
-      ∙ take_at (concatMap rowWords rs) _ (rowLength * length rs) (length-written rs formed)
+      ap (take (row_length * length rs)) (ap (λ e. e.row_space) (a.answer-is ∙ answered-is))
+      ∙ take_at (concat_map row_words rs) _ (row_length * length rs) (length-written rs formed)
 
-  pub answered-rows : rowsIn n out ≡ rs
+  pub answered-rows : rows_in n out ≡ rs
   answered-rows = rw answered-count (front-rows rs out formed front)
 
   pub answered-held : RowsHeld n out
@@ -80,15 +80,15 @@ module _ {g : Aggregate} {fs : List Fact} {q : Node} {words : ℕ} {out : List �
 
 -- ---- of an answered evaluation
 
-module _ (t s : List ℕ) (g : Aggregation) (ws : List ℕ) (z : Passes (evaluateUntallied t s g ws).refusal) where
+module _ (t s : List ℕ) (g : Aggregation) (ws : List ℕ) (z : Passes (evaluate_untallied t s g ws).refusal) where
   pub evaluation-checked : Passes (check t s)
-  evaluation-checked = (evaluate-answered (aggregate g) (wholeTable t) t s ws z).checked
+  evaluation-checked = (evaluate-answered (aggregate g) (whole_table t) t s ws z).checked
 
   -- the rows that the row space shows are those of the query
   pub rows-stand : Bytes t
-      → rowsIn (evaluateUntallied t s g ws).rows (evaluateUntallied t s g ws).rowSpace
-      ≡ rowsOver (aggregate g) (factsIn (wholeTable t) t) (queryNode s)
+      → rows_in (evaluate_untallied t s g ws).rows (evaluate_untallied t s g ws).row_space
+      ≡ rows_over (aggregate g) (facts_in (whole_table t) t) (query_node s)
   rows-stand bytes =
-      rw (evaluate-answered (aggregate g) (wholeTable t) t s ws z).answer-is
-      (rowsIn-written (rowsOver (aggregate g) (factsIn (wholeTable t) t) (queryNode s)) _
-      (ready-formed g (wholeTable t) t s (record { passed = evaluation-checked; seen = refl }) bytes))
+      rw (evaluate-answered (aggregate g) (whole_table t) t s ws z).answer-is
+      (rows_in-written (rows_over (aggregate g) (facts_in (whole_table t) t) (query_node s)) _
+      (ready-formed g (whole_table t) t s (record { passed = evaluation-checked; seen = refl }) bytes))

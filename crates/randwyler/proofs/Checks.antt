@@ -5,9 +5,9 @@ use mathlib.Core.List.{List}
 use Prim.Native.Nat.{ℕ}
 use native.Mathlib.Omega.{arith}
 use borrow.Author.Tests.{eqb-true}
-use Rattle.tsparql.specs.Check.{refuse, Passes, tableRefusal, check}
-use Rattle.tsparql.specs.Table.{wholeTable}
-use Rattle.tsparql.specs.Calls.{ceilingRefused, ceilingAnswered, ceilingOver, ceilingCall}
+use Rattle.tsparql.specs.Check.{refuse, Passes, table_refusal, check}
+use Rattle.tsparql.specs.Table.{whole_table}
+use Rattle.tsparql.specs.Calls.{ceiling_refused, ceiling_answered, ceiling_over, ceiling_call}
 use Rattle.tsparql.proofs.QueryLaws.{check-parts}
 use Rattle.table.specs.Answers as TableAnswers
 use Rattle.table.specs.declared.View.{View}
@@ -25,7 +25,7 @@ use Rattle.randwyler.specs.Answers.{Checked, Ready}
 -- ---- both
 
 -- an accepted table is seen whole
-pub whole-seen : (t : List ℕ) → Passes (tableRefusal t) → Seen (wholeTable t) t
+pub whole-seen : (t : List ℕ) → Passes (table_refusal t) → Seen (whole_table t) t
 whole-seen t z = record { passed = z; inside = omega arith }
 
 pub table-refuses : (t s : List ℕ) {n p : ℕ} → TableAnswers.Checked t (TA.Refused n p) → Checked t s (Refused n p)
@@ -51,15 +51,15 @@ module _ (t s : List ℕ) (v : View) (h : TableAnswers.Checked t (TA.Sound v)) w
 
 -- ---- ceiling
 
-pub ceiling-refuses : (t s : List ℕ) {n p : ℕ} → Checked t s (Refused n p) → ceilingRefused (refuse n p) ≡ ceilingCall t s
-unfolding ceilingOver
-ceiling-refuses t s h = ap ceilingRefused h.refusal ∙ sym (rw (sym h.sound))
+pub ceiling-refuses : (t s : List ℕ) {n p : ℕ} → Checked t s (Refused n p) → ceiling_refused (refuse n p) ≡ ceiling_call t s
+unfolding ceiling_over
+ceiling-refuses t s h = ap ceiling_refused h.refusal ∙ sym (rw (sym h.sound))
 
 module _ (t s : List ℕ) (v : View) (h : Checked t s (Sound v)) where
   passed : Passes (check t s)
   passed = eqb-true (check t s).number 0 (sym h.sound)
 
-  pub view-whole : view_of v ≡ wholeTable t
+  pub view-whole : view_of v ≡ whole_table t
   view-whole = rw (sym h.sound) at h.view
 
   pub view-seen : Seen (view_of v) t
@@ -68,11 +68,11 @@ module _ (t s : List ℕ) (v : View) (h : Checked t s (Sound v)) where
   pub checked-ready : Ready (view_of v) t s
   checked-ready = record { passed = passed; seen = view-whole }
 
-  pub ceiling-answers : {c n : ℕ} → CeilingIs (view_of v) t s (CR.Ceiling c n) → ceilingAnswered c ≡ ceilingCall t s
+  pub ceiling-answers : {c n : ℕ} → CeilingIs (view_of v) t s (CR.Ceiling c n) → ceiling_answered c ≡ ceiling_call t s
   ceiling-answers {c} {n} k =
       let a = checked-answered (view_of v) t s (CR.Ceiling c n) passed k in
       let is : c ≡ a.ceiling = cc a.answer in
-      ap ceilingAnswered is ∙ sym a.call ∙ ap (λ w. ceilingOver w t s) view-whole
+      ap ceiling_answered is ∙ sym a.call ∙ ap (λ w. ceiling_over w t s) view-whole
 
   pub ceiling-sound : {n p : ℕ} → CeilingIs (view_of v) t s (CR.Refused n p) → ⊥
   ceiling-sound {n} {p} k =

@@ -9,53 +9,53 @@ use lib.Dec.{leb}
 use lib.ListN.{length}
 use Rattle.tsparql.specs.Lists.{Every}
 use Rattle.tsparql.specs.Query.{Node}
-use Rattle.tsparql.specs.Table.{Fact, View, wholeTable, factsIn}
-use Rattle.tsparql.specs.PatternSets.{Aggregate, Aggregation, aggregate, rowsOver}
-use Rattle.tsparql.specs.Check.{refuse, noRefusal, Passes, passes, check}
-use Rattle.tsparql.specs.Reading.{queryNode}
-use Rattle.tsparql.specs.Evaluate.{refusedWith, answer}
-use Rattle.tsparql.specs.Calls.{Tally, raiseOne, tallied}
-use Rattle.tsparql.specs.Totals.{Totals, TotalsAnswer, totalsWords, totalsRefused, totalsWritten, totalsCall}
+use Rattle.tsparql.specs.Table.{Fact, View, whole_table, facts_in}
+use Rattle.tsparql.specs.PatternSets.{Aggregate, Aggregation, aggregate, rows_over}
+use Rattle.tsparql.specs.Check.{refuse, no_refusal, Passes, passes, check}
+use Rattle.tsparql.specs.Reading.{query_node}
+use Rattle.tsparql.specs.Evaluate.{refused_with, answer}
+use Rattle.tsparql.specs.Calls.{Tally, raise_one, tallied}
+use Rattle.tsparql.specs.Totals.{Totals, TotalsAnswer, totals_words, totals_refused, totals_written, totals_call}
 use Rattle.tsparql.proofs.EvaluateLaws.{evaluate-checked}
 use Rattle.tsparql.proofs.TotalsLaws.{after-refused, after-short, after-written}
 use Rattle.tsparql.proofs.TotalsLaws.{totals-check-refuses, totals-variable, totals-evaluated}
-use Rattle.rows.specs.RowWords.{rowsIn, RowFormed}
+use Rattle.rows.specs.RowWords.{rows_in, RowFormed}
 use Rattle.evaluation.specs.Evaluations.{Answers}
 use Rattle.evaluation.specs.declared.QueryRows.TheVariants as Q
 use Rattle.totals.specs.Entries.{entered, Entered}
 use Rattle.randwyler.specs.declared.CheckAnswer.TheVariants.{Refused}
-use Rattle.randwyler.specs.Answers.{Checked, Ready, noTotals, totalsChecked}
+use Rattle.randwyler.specs.Answers.{Checked, Ready, no_totals, totals_checked}
 use Rattle.randwyler.proofs.AnsweredRows.{answered-rows}
 
 -- ---- a checked query
 
 -- it is refused
 pub totals-refused : (g : Aggregate) (fs : List Fact) (q : Node) (u words : ℕ) (a : Tally) (ws out : List ℕ) {n p : ℕ}
-    → Answers g fs q words ws (Q.Refused n p) → noTotals n p ws out a ≡ totalsChecked g fs q u words out a
+    → Answers g fs q words ws (Q.Refused n p) → no_totals n p ws out a ≡ totals_checked g fs q u words out a
 unfolding tallied
 totals-refused g fs q u words a ws out {n} {p} e =
-    let es = totalsWords u (rowsOver g fs q) in
+    let es = totals_words u (rows_over g fs q) in
     let no : passes (refuse n p) ≡ false = ap (λ y. passes y.refusal) e.answer-is ∙ sym e.sound in
-    let x = after-refused es out (refusedWith (refuse n p) ws) (eqb-false n 0 no) in
+    let x = after-refused es out (refused_with (refuse n p) ws) (eqb-false n 0 no) in
     rw (sym e.answer-is, x, no)
 
 -- it is answered, and the entries of its rows are told and, where they fit, written
 module _ {g : Aggregate} {fs : List Fact} {q : Node} {words : ℕ} {ws : List ℕ} {n p k : ℕ} (u : ℕ) (a : Tally) (out : List ℕ)
-    {out' : List ℕ} {m : ℕ} (formed : Every RowFormed (rowsOver g fs q)) (e : Answers g fs q words ws (Q.Rows n p k))
-    (t : Entered u (rowsIn n ws) out out' m) where
+    {out' : List ℕ} {m : ℕ} (formed : Every RowFormed (rows_over g fs q)) (e : Answers g fs q words ws (Q.Rows n p k))
+    (t : Entered u (rows_in n ws) out out' m) where
   abbrev es : List ℕ
-  es = totalsWords u (rowsOver g fs q)
+  es = totals_words u (rows_over g fs q)
 
   size_is : m ≡ length es
-  size_is = t.size ∙ ap (λ rs. length (totalsWords u rs)) (answered-rows formed e)
+  size_is = t.size ∙ ap (λ rs. length (totals_words u rs)) (answered-rows formed e)
 
-  output-is : out' ≡ cond (leb (length es) (length out)) (entered u (rowsOver g fs q) out) out
+  output-is : out' ≡ cond (leb (length es) (length out)) (entered u (rows_over g fs q) out) out
   output-is =
       t.output
-      ∙ ap (λ rs. cond (leb (length (totalsWords u rs)) (length out)) (entered u rs out) out) (answered-rows formed e)
+      ∙ ap (λ rs. cond (leb (length (totals_words u rs)) (length out)) (entered u rs out) out) (answered-rows formed e)
 
-  space-is : ws ≡ (answer g fs q words).rowSpace
-  space-is = ap (λ y. y.rowSpace) e.answer-is
+  space-is : ws ≡ (answer g fs q words).row_space
+  space-is = ap (λ y. y.row_space) e.answer-is
 
   passed : Passes (answer g fs q words).refusal
   passed = ap (λ y. y.refusal.number) (sym e.answer-is)
@@ -64,44 +64,44 @@ module _ {g : Aggregate} {fs : List Fact} {q : Node} {words : ℕ} {ws : List �
   abbrev counted : Totals → TotalsAnswer
   counted x = record { totals = x; tally = tallied a x.refusal }
 
-  pub totals-short : length out < m → noTotals 10 m ws out' a ≡ totalsChecked g fs q u words out a
+  pub totals-short : length out < m → no_totals 10 m ws out' a ≡ totals_checked g fs q u words out a
   unfolding tallied
   totals-short h =
       let less : length out < length es = rw size_is at h in
       let same : out' ≡ out = output-is ∙ rw (lt-leb (length es) (length out) less) in
-      let here : totalsRefused (refuse 10 m) ws out' ≡ totalsRefused (refuse 10 (length es)) (answer g fs q words).rowSpace out =
+      let here : totals_refused (refuse 10 m) ws out' ≡ totals_refused (refuse 10 (length es)) (answer g fs q words).row_space out =
       rw (same, size_is, space-is) in
       ap counted (here ∙ sym (after-short es out (answer g fs q words) passed less))
 
   pub totals-written : m ≤ length out → ◌≡◌ {A = TotalsAnswer}
-      (record { totals = record { refusal = noRefusal; size = m; rowSpace = ws; output = out' }; tally = raiseOne true a })
-      (totalsChecked g fs q u words out a)
+      (record { totals = record { refusal = no_refusal; size = m; row_space = ws; output = out' }; tally = raise_one true a })
+      (totals_checked g fs q u words out a)
   unfolding tallied
   totals-written h =
       let fits : length es ≤ length out = rw size_is at h in
-      let new : out' ≡ entered u (rowsOver g fs q) out = output-is ∙ rw (le-leb (length es) (length out) fits) in
-      let here : ◌≡◌ {A = Totals} (record { refusal = noRefusal; size = m; rowSpace = ws; output = out' })
-      (totalsWritten es (answer g fs q words).rowSpace out) = rw (new, size_is, space-is) in
+      let new : out' ≡ entered u (rows_over g fs q) out = output-is ∙ rw (le-leb (length es) (length out) fits) in
+      let here : ◌≡◌ {A = Totals} (record { refusal = no_refusal; size = m; row_space = ws; output = out' })
+      (totals_written es (answer g fs q words).row_space out) = rw (new, size_is, space-is) in
       ap counted (here ∙ sym (after-written es out (answer g fs q words) passed fits))
 
 -- ---- the call
 
 pub call-check-refuses : (t s : List ℕ) (g : Aggregation) (u : ℕ) (ws out : List ℕ) (a : Tally) {n p : ℕ} → Checked t s (Refused n p)
-    → noTotals n p ws out a ≡ totalsCall t s g u ws out a
+    → no_totals n p ws out a ≡ totals_call t s g u ws out a
 unfolding tallied
 call-check-refuses t s g u ws out a h =
     let no : passes (check t s) ≡ false = sym h.sound in
-    let x = totals-check-refuses (aggregate g) (wholeTable t) t s u ws out (eqb-false (check t s).number 0 no) in
+    let x = totals-check-refuses (aggregate g) (whole_table t) t s u ws out (eqb-false (check t s).number 0 no) in
     rw (x, h.refusal, no)
 
 module _ (v : View) (t s : List ℕ) (g : Aggregation) (u : ℕ) (ws out : List ℕ) (a : Tally) (h : Ready v t s) where
-  pub call-variable : 15 < u → noTotals 10 0 ws out a ≡ totalsCall t s g u ws out a
+  pub call-variable : 15 < u → no_totals 10 0 ws out a ≡ totals_call t s g u ws out a
   unfolding tallied
-  call-variable l = rw (totals-variable (aggregate g) (wholeTable t) t s u ws out h.passed l)
+  call-variable l = rw (totals-variable (aggregate g) (whole_table t) t s u ws out h.passed l)
 
   -- by the choice g, or what is the same choice
   pub call-answered : {same : Aggregation} → same ≡ g → u ≤ 15
-      → totalsChecked (aggregate same) (factsIn v t) (queryNode s) u (length ws) out a ≡ totalsCall t s g u ws out a
+      → totals_checked (aggregate same) (facts_in v t) (query_node s) u (length ws) out a ≡ totals_call t s g u ws out a
   call-answered chosen l =
-      let is = totals-evaluated (aggregate g) (wholeTable t) t s u ws out l in
-      rw (chosen, is, evaluate-checked (aggregate g) (wholeTable t) t s ws h.passed, h.seen)
+      let is = totals-evaluated (aggregate g) (whole_table t) t s u ws out l in
+      rw (chosen, is, evaluate-checked (aggregate g) (whole_table t) t s ws h.passed, h.seen)

@@ -2,14 +2,14 @@
 ghost use Rattle.std.specs.Prelude.{◌≡◌, true, false, ◌<◌};
 ghost use Rattle.tsparql.specs.Check.{refuse, check};
 ghost use Rattle.tsparql.specs.Rewrite as Rewrite;
-ghost use Rattle.tsparql.specs.Calls.{ceilingCall, ceilingRefused, raised, raiseOne, evaluate};
-ghost use Rattle.tsparql.specs.Totals.{totalsCall};
-ghost use Rattle.grammar.specs.ReadText.{readText};
+ghost use Rattle.tsparql.specs.Calls.{ceiling_call, ceiling_refused, raised, raise_one, evaluate};
+ghost use Rattle.tsparql.specs.Totals.{totals_call};
+ghost use Rattle.grammar.specs.ReadText.{read_text};
 ghost use Rattle.patterns.specs.Matching.{view_of};
-ghost use Rattle.randwyler.specs.Answers.{Checked, refusalIn, rewrittenIn, ceilingIn};
-ghost use Rattle.patterns.specs.Sets.{aggregationOf, aggregateOf};
-ghost use Rattle.randwyler.specs.Answers.{chosen, tallyIn, evaluatedIn, RefusedWith, Ready, Answered};
-ghost use Rattle.randwyler.specs.Answers.{totalsIn, TotalsRefusedWith, TotalsAnswered};
+ghost use Rattle.randwyler.specs.Answers.{Checked, refusal_in, rewritten_in, ceiling_in};
+ghost use Rattle.patterns.specs.Sets.{aggregation_of, aggregate_of};
+ghost use Rattle.randwyler.specs.Answers.{chosen, tally_in, evaluated_in, RefusedWith, Ready, Answered};
+ghost use Rattle.randwyler.specs.Answers.{totals_in, TotalsRefusedWith, TotalsAnswered};
 
 use ceiling::{CeilingRead, ceiling_node};
 use evaluation::{QueryRows, answer};
@@ -60,7 +60,7 @@ pub struct Refusal {
 // The check of a table and a query: refusals 1 to 7. Nothing is written.
 #[unsafe(no_mangle)]
 pub extern "C" fn randwyler_check(table: &[u8], query: &[u8]) -> Refusal
-    ensures { refusalIn result ≡ check table.now query.now }
+    ensures { refusal_in result ≡ check table.now query.now }
 {
     match check_both(table, query) {
         CheckAnswer::Sound(_) => Refusal {
@@ -88,7 +88,7 @@ pub struct Rewritten {
 // The rewriting of a query into a lent output: refusals 5 to 7 and 9. Past the result, and on a refusal, the output is unchanged.
 #[unsafe(no_mangle)]
 pub extern "C" fn randwyler_rewrite(query: &[u8], output: &mut [u8]) -> Rewritten
-    ensures { rewrittenIn result output.new ≡ Rewrite.rewrite query.now output.old }
+    ensures { rewritten_in result output.new ≡ Rewrite.rewrite query.now output.old }
 {
     match rewrite(query, output) {
         RewriteAnswer::Written(length) => Rewritten {
@@ -109,7 +109,7 @@ pub extern "C" fn randwyler_rewrite(query: &[u8], output: &mut [u8]) -> Rewritte
 // The query bytes of a text into a lent output: refusals 11 and 12. Past the bytes, and on a refusal, the output is unchanged.
 #[unsafe(no_mangle)]
 pub extern "C" fn randwyler_read_text(text: &[u8], output: &mut [u8]) -> Rewritten
-    ensures { rewrittenIn result output.new ≡ readText text.now output.old }
+    ensures { rewritten_in result output.new ≡ read_text text.now output.old }
 {
     match read_text(text, output) {
         ReadAnswer::Written(written) => Rewritten {
@@ -137,7 +137,7 @@ pub struct Ceiling {
 }
 
 fn ceiling_refused(number: u32, place: usize) -> Ceiling
-    ensures { ceilingIn result ≡ ceilingRefused (refuse number place) }
+    ensures { ceiling_in result ≡ ceiling_refused (refuse number place) }
 {
     Ceiling {
         number,
@@ -149,7 +149,7 @@ fn ceiling_refused(number: u32, place: usize) -> Ceiling
 // The ceiling of a query over a table: refusals 1 to 7. Nothing is written.
 #[unsafe(no_mangle)]
 pub extern "C" fn randwyler_ceiling_of(table: &[u8], query: &[u8]) -> Ceiling
-    ensures { ceilingIn result ≡ ceilingCall table.now query.now }
+    ensures { ceiling_in result ≡ ceiling_call table.now query.now }
 {
     let c = check_both(table, query);
     match c {
@@ -195,7 +195,7 @@ fn one_more(n: u32) -> u32
 }
 
 fn with_answered(a: Tally) -> Tally
-    ensures { tallyIn result ≡ raiseOne true (tallyIn a) }
+    ensures { tally_in result ≡ raise_one true (tally_in a) }
 {
     Tally {
         answered: one_more(a.answered),
@@ -204,7 +204,7 @@ fn with_answered(a: Tally) -> Tally
 }
 
 fn with_refused(a: Tally) -> Tally
-    ensures { tallyIn result ≡ raiseOne false (tallyIn a) }
+    ensures { tally_in result ≡ raise_one false (tally_in a) }
 {
     Tally {
         answered: a.answered,
@@ -214,7 +214,7 @@ fn with_refused(a: Tally) -> Tally
 
 // A refusal is counted as refused.
 fn evaluation_refused(number: u32, place: usize, a: Tally) -> Evaluated
-    ensures { RefusedWith number place (tallyIn a) result }
+    ensures { RefusedWith number place (tally_in a) result }
 {
     let tally = with_refused(a);
     Evaluated {
@@ -229,7 +229,7 @@ fn evaluation_refused(number: u32, place: usize, a: Tally) -> Evaluated
 
 // The mean where the caller asks for it, else the least.
 fn chosen_aggregation(mean: bool) -> Aggregation
-    ensures { aggregationOf result ≡ chosen mean }
+    ensures { aggregation_of result ≡ chosen mean }
 {
     if mean {
         Aggregation::Mean
@@ -248,7 +248,7 @@ fn evaluate_checked(
     g: Aggregation,
 ) -> Evaluated
     requires { Ready (view_of view) table.now query.now }
-    ensures { Answered (aggregateOf g) (view_of view) table.now query.now (tallyIn tally)
+    ensures { Answered (aggregate_of g) (view_of view) table.now query.now (tally_in tally)
         space.old space.new result }
 {
     match answer(table, view, query, space, g) {
@@ -274,8 +274,8 @@ pub extern "C" fn randwyler_evaluate(
     space: &mut [u32],
     tally: Tally,
 ) -> Evaluated
-    ensures { evaluatedIn result space.new
-        ≡ evaluate table.now query.now (chosen mean) space.old (tallyIn tally) }
+    ensures { evaluated_in result space.new
+        ≡ evaluate table.now query.now (chosen mean) space.old (tally_in tally) }
 {
     let g = chosen_aggregation(mean);
     let c = check_both(table, query);
@@ -302,7 +302,7 @@ pub struct Totalled {
 
 // A refusal is counted as refused.
 fn totals_refused(number: u32, place: usize, a: Tally) -> Totalled
-    ensures { TotalsRefusedWith number place (tallyIn a) result }
+    ensures { TotalsRefusedWith number place (tally_in a) result }
 {
     let tally = with_refused(a);
     Totalled {
@@ -325,8 +325,8 @@ fn totals_checked(
     g: Aggregation,
 ) -> Totalled
     requires { Ready (view_of view) table.now query.now × (variable < 16) }
-    ensures { TotalsAnswered (aggregateOf g) (view_of view) table.now query.now variable
-        space.old output.old (tallyIn tally) space.new output.new result }
+    ensures { TotalsAnswered (aggregate_of g) (view_of view) table.now query.now variable
+        space.old output.old (tally_in tally) space.new output.new result }
 {
     let a = answer(table, view, query, space, g);
     match a {
@@ -364,8 +364,8 @@ pub extern "C" fn randwyler_totals_of(
     output: &mut [u32],
     tally: Tally,
 ) -> Totalled
-    ensures { totalsIn result space.new output.new ≡ totalsCall table.now query.now
-        (chosen mean) variable space.old output.old (tallyIn tally) }
+    ensures { totals_in result space.new output.new ≡ totals_call table.now query.now
+        (chosen mean) variable space.old output.old (tally_in tally) }
 {
     let g = chosen_aggregation(mean);
     let c = check_both(table, query);

@@ -9,39 +9,39 @@ use lib.Dec.{ltb}
 use lib.ListN.{length, take, length-map, length-take}
 use borrow.Author.Tests.{ltb-true, ltb-false, le-ltb}
 use Rattle.grammar.specs.Grammar.{Query, Derives}
-use Rattle.grammar.specs.Meaning.{meaningBytes}
+use Rattle.grammar.specs.Meaning.{meaning_bytes}
 use Rattle.grammar.specs.Automaton.{fault, read}
-use Rattle.grammar.specs.Promise.{textLimit}
-use Rattle.grammar.specs.ReadText.{textRefusal, readText}
+use Rattle.grammar.specs.Promise.{text_limit}
+use Rattle.grammar.specs.ReadText.{text_refusal, read_text}
 use Rattle.grammar.proofs.Reading.{derives-read}
 use Rattle.grammar.proofs.TextCalls.{promise}
-use Rattle.words.specs.Words.{tokenWord, words}
+use Rattle.words.specs.Words.{token_word, words}
 use Rattle.lexer.specs.Steps.{Scans}
 use Rattle.lexer.specs.declared.Scanned.{Scanned}
 use Rattle.lexer.specs.declared.Scanned.TheVariants as R
-use Rattle.reading.specs.Answers.{readIn, delivered, Writes, Finishes}
+use Rattle.reading.specs.Answers.{read_in, delivered, Writes, Finishes}
 use Rattle.reading.specs.declared.ReadAnswer.{ReadAnswer}
 use Rattle.reading.specs.declared.ReadAnswer.TheVariants as A
 
-pub call_long : (s out : List ℕ) → textLimit < length s → readIn (A.Refused 11 4096) out ≡ readText s out
+pub call_long : (s out : List ℕ) → text_limit < length s → read_in (A.Refused 11 4096) out ≡ read_text s out
 call_long s out h = sym ((promise s out).long h)
 
 pub call-fault :
-    (s out ws : List ℕ) (r : Scanned) (p : ℕ) → r ≡ R.Fault p → length s ≤ textLimit → Scans s ws r
-    → readIn (A.Refused 11 p) out ≡ readText s out
-unfolding readText textRefusal
+    (s out ws : List ℕ) (r : Scanned) (p : ℕ) → r ≡ R.Fault p → length s ≤ text_limit → Scans s ws r
+    → read_in (A.Refused 11 p) out ≡ read_text s out
+unfolding read_text text_refusal
 call-fault s out ws r p x h f = sym (go (subst (λ (q : Scanned). Scans s ws q) x f))
   where
-    go : read s ≡ fault p → readText s out ≡ readIn (A.Refused 11 p) out
-    go e = rw (le-ltb textLimit (length s) h, e)
+    go : read s ≡ fault p → read_text s out ≡ read_in (A.Refused 11 p) out
+    go e = rw (le-ltb text_limit (length s) h, e)
 
 -- a text with a derivation is answered by its meaning's bytes
-call-derived : (s out : List ℕ) (q : Query) → length s ≤ textLimit → Derives q s → readText s out ≡ delivered (meaningBytes q) out
-call-derived s out q h d = go (ltb (length out) (length (meaningBytes q))) refl
+call-derived : (s out : List ℕ) (q : Query) → length s ≤ text_limit → Derives q s → read_text s out ≡ delivered (meaning_bytes q) out
+call-derived s out q h d = go (ltb (length out) (length (meaning_bytes q))) refl
   where
-    go : (b : Bool) → ltb (length out) (length (meaningBytes q)) ≡ b → readText s out ≡ delivered (meaningBytes q) out
-    go true e = (promise s out).short h q d (ltb-true (length out) (length (meaningBytes q)) e) ∙ sym (rw e)
-    go false e = (promise s out).derived h q d (ltb-false (length out) (length (meaningBytes q)) e) ∙ sym (rw e)
+    go : (b : Bool) → ltb (length out) (length (meaning_bytes q)) ≡ b → read_text s out ≡ delivered (meaning_bytes q) out
+    go true e = (promise s out).short h q d (ltb-true (length out) (length (meaning_bytes q)) e) ∙ sym (rw e)
+    go false e = (promise s out).derived h q d (ltb-false (length out) (length (meaning_bytes q)) e) ∙ sym (rw e)
 
 pub finishes : (ws : List ℕ) (n : ℕ) (out out' : List ℕ) (r : ReadAnswer) → Writes (take n ws) out out' r → Finishes ws n out out' r
 finishes ws n out out' r writes s ts h e w z =
@@ -50,11 +50,11 @@ finishes ws n out out' r writes s ts h e w z =
 
 -- there are no fewer words than tokens
 pub finishes-none : (ws : List ℕ) (n : ℕ) (out : List ℕ) → length ws < n → Finishes ws n out out (A.Written 0)
-finishes-none ws n out h s ts l e w z = absurd (omega (arith, ap length w, length-map ts tokenWord, length-take n ws))
+finishes-none ws n out h s ts l e w z = absurd (omega (arith, ap length w, length-map ts token_word, length-take n ws))
 
 pub call-tokens :
-    (s out out' ws : List ℕ) (r : Scanned) (n : ℕ) (a : ReadAnswer) → r ≡ R.Tokens n → length s ≤ textLimit → Scans s ws r
-    → Finishes ws n out out' a → readIn a out' ≡ readText s out
+    (s out out' ws : List ℕ) (r : Scanned) (n : ℕ) (a : ReadAnswer) → r ≡ R.Tokens n → length s ≤ text_limit → Scans s ws r
+    → Finishes ws n out out' a → read_in a out' ≡ read_text s out
 call-tokens s out out' ws r n a x h f g =
     let t = subst (λ (q : Scanned). Scans s ws q) x f in
     g s t.0 h t.1 t.2 t.3

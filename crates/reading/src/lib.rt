@@ -1,8 +1,8 @@
 // A typed query: the text into words, their links, and the query's bytes from a buffer into the output.
 ghost use Rattle.std.specs.Prelude.{◌≡◌, ◌≤◌, length};
-ghost use Rattle.grammar.specs.ReadText.{readText};
+ghost use Rattle.grammar.specs.ReadText.{read_text};
 ghost use Rattle.words.specs.Links.{Linked};
-ghost use Rattle.reading.specs.Answers.{readIn, Renders, Delivers, Writes, Finishes};
+ghost use Rattle.reading.specs.Answers.{read_in, Renders, Delivers, Writes, Finishes};
 
 use bytes::copy;
 use groups::filtered;
@@ -71,7 +71,7 @@ fn finish(words: &[u32], n: usize, output: &mut [u8]) -> ReadAnswer
 
 // The query bytes of a text at the front of the output: refusals 11 and 12.
 pub fn read_text(text: &[u8], output: &mut [u8]) -> ReadAnswer
-    ensures { readIn result output.new ≡ readText text.now output.old }
+    ensures { read_in result output.new ≡ read_text text.now output.old }
 {
     if TEXT_LIMIT < text.len() {
         return ReadAnswer::Refused {

@@ -1,11 +1,11 @@
 // The text of the program `strikes` from the bytes of its two files: the evaluation in a row space of 963 rows, and its report.
-ghost use Rattle.tsparql.specs.Table.{wholeTable, factsIn};
-ghost use Rattle.tsparql.specs.PatternSets.{byLeast, aggregate, rowsOver};
-ghost use Rattle.tsparql.specs.Reading.{queryNode};
-ghost use Rattle.tsparql.specs.Calls.{evaluateUntallied};
+ghost use Rattle.tsparql.specs.Table.{whole_table, facts_in};
+ghost use Rattle.tsparql.specs.PatternSets.{by_least, aggregate, rows_over};
+ghost use Rattle.tsparql.specs.Reading.{query_node};
+ghost use Rattle.tsparql.specs.Calls.{evaluate_untallied};
 ghost use Rattle.tsparql.specs.Strikes.{report, strikes};
-ghost use Rattle.randwyler.specs.Answers.{evaluatedIn};
-ghost use Rattle.rows.specs.RowWords.{rowsIn};
+ghost use Rattle.randwyler.specs.Answers.{evaluated_in};
+ghost use Rattle.rows.specs.RowWords.{rows_in};
 ghost use Rattle.text.specs.Writing.{Puts};
 ghost use Rattle.report.specs.Reported.{RowsFit};
 
@@ -18,7 +18,7 @@ const FACTS_LIMIT: usize = 65529;
 // The report of an evaluation and of the rows at the front of its row space.
 fn put_report(e: Evaluated, space: &[u32], out: &mut [u8], at: usize) -> usize
     requires { RowsFit e space.now }
-    ensures { Puts (report (evaluatedIn e space.now).evaluated (rowsIn e.rows space.now)) at
+    ensures { Puts (report (evaluated_in e space.now).evaluated (rows_in e.rows space.now)) at
         out.old out.new result }
 {
     let number = e.number;
@@ -32,8 +32,8 @@ fn put_report(e: Evaluated, space: &[u32], out: &mut [u8], at: usize) -> usize
 
 // The report of the evaluation of a query by least trust in a lent row space.
 fn put_evaluation(facts: &[u8], query: &[u8], space: &mut [u32], out: &mut [u8], at: usize) -> usize
-    ensures { Puts (report (evaluateUntallied facts.now query.now byLeast space.old)
-        (rowsOver (aggregate byLeast) (factsIn (wholeTable facts.now) facts.now) (queryNode query.now))) at
+    ensures { Puts (report (evaluate_untallied facts.now query.now by_least space.old)
+        (rows_over (aggregate by_least) (facts_in (whole_table facts.now) facts.now) (query_node query.now))) at
         out.old out.new result }
 {
     let none = Tally {

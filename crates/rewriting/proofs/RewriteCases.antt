@@ -6,70 +6,70 @@ use Prim.Native.Nat.{ℕ, ◌≤◌, ◌<◌}
 use native.Mathlib.Omega.{arith}
 use borrow.Author.Tests.{lt-ltb, le-ltb, eqb-true}
 use lib.ListN.{length}
-use Rattle.tsparql.specs.Push.{noBound, push}
-use Rattle.tsparql.specs.Writing.{nodeBytes}
-use Rattle.tsparql.specs.Reading.{queryNode}
-use Rattle.tsparql.specs.Check.{Refusal, refuse, Passes, passes, queryRefusal}
-use Rattle.tsparql.specs.Rewrite.{rewriteLimit, rewriting, rewriteRefusal, wroteNothing, rewrite}
+use Rattle.tsparql.specs.Push.{no_bound, push}
+use Rattle.tsparql.specs.Writing.{node_bytes}
+use Rattle.tsparql.specs.Reading.{query_node}
+use Rattle.tsparql.specs.Check.{Refusal, refuse, Passes, passes, query_refusal}
+use Rattle.tsparql.specs.Rewrite.{rewrite_limit, rewriting, rewrite_refusal, wrote_nothing, rewrite}
 use Rattle.tsparql.proofs.QueryLaws.{query-checked}
-use Rattle.tsparql.proofs.RefusalLaws.{orElse-second}
+use Rattle.tsparql.proofs.RefusalLaws.{or_else-second}
 use Rattle.tsparql.proofs.RewriteLaws.{rewrite-passes}
 use Rattle.query.specs.Found.{NodeSound, node_of}
 use Rattle.query.proofs.ReadLaws.{fault-not-got}
 use Rattle.query.proofs.Forest.{query-reads}
 use Rattle.scope.specs.declared.QueryAnswer.{QueryAnswer}
 use Rattle.scope.specs.declared.QueryAnswer.TheVariants as A
-use Rattle.scope.specs.Variables.{soundIn, refusalIn, Checked}
+use Rattle.scope.specs.Variables.{sound_in, refusal_in, Checked}
 use Rattle.rewriting.specs.declared.Pushed.{Pushed}
 use Rattle.rewriting.specs.declared.Pushed.TheVariants as P
-use Rattle.rewriting.specs.Answers.{Pushes, rewrittenIn, answer_of}
+use Rattle.rewriting.specs.Answers.{Pushes, rewritten_in, answer_of}
 
-module _ (s out : List ℕ) (r : QueryAnswer) (checked : Checked rewriteLimit s r) where
+module _ (s out : List ℕ) (r : QueryAnswer) (checked : Checked rewrite_limit s r) where
   -- 5 to 7
-  pub query-refused : {n p : ℕ} → r ≡ A.Refused n p → wroteNothing (refuse n p) out ≡ rewrite s out
-  unfolding rewrite rewriteRefusal
+  pub query-refused : {n p : ℕ} → r ≡ A.Refused n p → wrote_nothing (refuse n p) out ≡ rewrite s out
+  unfolding rewrite rewrite_refusal
   query-refused e =
-      let no : passes (queryRefusal rewriteLimit s) ≡ false = sym checked.sound ∙ ap soundIn e in
-      let is = sym checked.refusal ∙ ap refusalIn e in
-      sym (rw (no, no) (ap (λ (f : Refusal). wroteNothing f out) is))
+      let no : passes (query_refusal rewrite_limit s) ≡ false = sym checked.sound ∙ ap sound_in e in
+      let is = sym checked.refusal ∙ ap refusal_in e in
+      sym (rw (no, no) (ap (λ (f : Refusal). wrote_nothing f out) is))
 
-  pub query-passes : r ≡ A.Sound → Passes (queryRefusal rewriteLimit s)
-  query-passes e = eqb-true (queryRefusal rewriteLimit s).number 0 (sym checked.sound ∙ ap soundIn e)
+  pub query-passes : r ≡ A.Sound → Passes (query_refusal rewrite_limit s)
+  query-passes e = eqb-true (query_refusal rewrite_limit s).number 0 (sym checked.sound ∙ ap sound_in e)
 
 -- a query that passes is one node, and short enough
 pub record Whole (s : List ℕ) : Type 0 where
   pub sound : NodeSound s
-  pub is : node_of s ≡ queryNode s
-  pub short : length s ≤ rewriteLimit
+  pub is : node_of s ≡ query_node s
+  pub short : length s ≤ rewrite_limit
 
-pub whole : (s : List ℕ) → Passes (queryRefusal rewriteLimit s) → Whole s
+pub whole : (s : List ℕ) → Passes (query_refusal rewrite_limit s) → Whole s
 whole s z =
-    let c = query-checked rewriteLimit s z in
+    let c = query-checked rewrite_limit s z in
     let reads = query-reads s (rw c.read tt) in
     record { sound = rw reads.1 tt; is = rw reads.1; short = c.short }
 
-module _ (s out : List ℕ) (z : Passes (queryRefusal rewriteLimit s)) where
-  rewriting-is : nodeBytes (push noBound (node_of s)) ≡ rewriting s
+module _ (s out : List ℕ) (z : Passes (query_refusal rewrite_limit s)) where
+  rewriting-is : node_bytes (push no_bound (node_of s)) ≡ rewriting s
   unfolding rewriting
-  rewriting-is = ap (λ x. nodeBytes (push noBound x)) (whole s z).is
+  rewriting-is = ap (λ x. node_bytes (push no_bound x)) (whole s z).is
 
   -- 9
-  pub too_short : {size : ℕ} → size ≡ length (nodeBytes (push noBound (node_of s))) → length out < size
-      → wroteNothing (refuse 9 size) out ≡ rewrite s out
-  unfolding rewrite rewriteRefusal
+  pub too_short : {size : ℕ} → size ≡ length (node_bytes (push no_bound (node_of s))) → length out < size
+      → wrote_nothing (refuse 9 size) out ≡ rewrite s out
+  unfolding rewrite rewrite_refusal
   too_short e l =
       let is = e ∙ ap length rewriting-is in
       sym (rw (z, lt-ltb (length out) (length (rewriting s)) (omega (arith, is)), is))
 
   -- the push is written
-  pub all-written : (out' : List ℕ) (p : Pushed) → length (nodeBytes (push noBound (node_of s))) ≤ length out
-      → Pushes s noBound out out' p → rewrittenIn (answer_of p) out' ≡ rewrite s out
-  unfolding rewriteRefusal
+  pub all-written : (out' : List ℕ) (p : Pushed) → length (node_bytes (push no_bound (node_of s))) ≤ length out
+      → Pushes s no_bound out out' p → rewritten_in (answer_of p) out' ≡ rewrite s out
+  unfolding rewrite_refusal
   all-written out' (P.Node size next) l h =
       let is = rewriting-is in
       let fits = le-ltb (length out) (length (rewriting s)) (omega (arith, ap length is)) in
-      let n : size ≡ length (nodeBytes (push noBound (node_of s))) = cc h.found in
+      let n : size ≡ length (node_bytes (push no_bound (node_of s))) = cc h.found in
       let bytes = h.wrote.bytes in
-      let passed = rewrite-passes s out (rw (orElse-second (queryRefusal rewriteLimit s) _ z, fits)) in
+      let passed = rewrite-passes s out (rw (or_else-second (query_refusal rewrite_limit s) _ z, fits)) in
       rw (n, bytes, is) (sym passed)
   all-written out' (P.Refused n p) l h = absurd (fault-not-got h.found)

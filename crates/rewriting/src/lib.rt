@@ -4,12 +4,12 @@ ghost use Rattle.std.specs.Prelude.{◌≡◌, ◌+◌, ◌^◌, ◌≤◌, ◌<
 ghost use Rattle.tsparql.specs.Push.{push, BoundFormed};
 ghost use Rattle.tsparql.specs.Reading.{got};
 ghost use Rattle.tsparql.specs.Rewrite as Rewrite;
-ghost use Rattle.tsparql.specs.Writing.{nodeSize};
-ghost use Rattle.heads.specs.Answers.{nodeFound, faultIn};
+ghost use Rattle.tsparql.specs.Writing.{node_size};
+ghost use Rattle.heads.specs.Answers.{node_found, fault_in};
 ghost use Rattle.query.specs.Found.{NodeSound, node_of};
 ghost use Rattle.encoding.specs.Writers.{Wrote};
-ghost use Rattle.bounds.specs.Bounds.{boundIn, wrapBytes, ownPush, ownSize};
-ghost use Rattle.rewriting.specs.Answers.{pushedIn, place_in, placedBehind, Pushable, Pushes, rewrittenIn, answer_of};
+ghost use Rattle.bounds.specs.Bounds.{bound_in, wrap_bytes, own_push, own_size};
+ghost use Rattle.rewriting.specs.Answers.{pushed_in, place_in, placed_behind, Pushable, Pushes, rewritten_in, answer_of};
 
 use bounds::{Bound, first_bound, own_size, second_bound, stays_put, wraps};
 use bytes::copy;
@@ -37,7 +37,7 @@ const REWRITE_LIMIT: usize = 1024;
 
 // The refusal of a node that does not read.
 fn fault_refused(h: NodeRead) -> Pushed
-    ensures { result ≡ Pushed.Refused 6 (faultIn (nodeFound h)) }
+    ensures { result ≡ Pushed.Refused 6 (fault_in (node_found h)) }
 {
     Pushed::Refused {
         number: FAULT,
@@ -48,7 +48,7 @@ fn fault_refused(h: NodeRead) -> Pushed
 // A refusal at a place counted from k bytes before.
 fn refused_at(k: usize, p: Pushed) -> Pushed
     requires { k + place_in p < 2 ^ 64 }
-    ensures { result ≡ placedBehind k p }
+    ensures { result ≡ placed_behind k p }
 {
     match p {
         Pushed::Node(size, next) => Pushed::Node(size, next),
@@ -62,7 +62,7 @@ fn refused_at(k: usize, p: Pushed) -> Pushed
 // The size of the push of the node that a part starts with, and the place behind the node.
 fn push_size(q: &[u8], b: Bound) -> Pushed
     requires { NodeSound q.now × (length q.now ≤ 1024) }
-    ensures { pushedIn result ≡ got (nodeSize (push (boundIn b) (node_of q.now))) (nodeSize (node_of q.now)) }
+    ensures { pushed_in result ≡ got (node_size (push (bound_in b) (node_of q.now))) (node_size (node_of q.now)) }
 {
     let h = read_own(q);
     let NodeRead::Node(head, k) = h else {
@@ -90,8 +90,8 @@ fn push_size(q: &[u8], b: Bound) -> Pushed
 
 // Ensure trust with the bound at the front of the output, and how many bytes that is.
 fn write_wrap(b: Bound, out: &mut [u8]) -> usize
-    requires { BoundFormed (boundIn b) × (length (wrapBytes (boundIn b)) ≤ length out.old) }
-    ensures { Wrote (wrapBytes (boundIn b)) out.old out.new result }
+    requires { BoundFormed (bound_in b) × (length (wrap_bytes (bound_in b)) ≤ length out.old) }
+    ensures { Wrote (wrap_bytes (bound_in b)) out.old out.new result }
 {
     match b {
         Bound::Nothing => 0,
@@ -101,8 +101,8 @@ fn write_wrap(b: Bound, out: &mut [u8]) -> usize
 
 // What stands before a node's operands after the push, at the front of the output, and how many bytes that is.
 fn write_own(q: &[u8], h: Head, b: Bound, k: usize, out: &mut [u8]) -> usize
-    requires { BoundFormed (boundIn b) × (k ≤ 1024) × (k ≤ length q.now) × (ownSize h (boundIn b) k ≤ length out.old) }
-    ensures { Wrote (ownPush h (boundIn b) (take k q.now)) out.old out.new result }
+    requires { BoundFormed (bound_in b) × (k ≤ 1024) × (k ≤ length q.now) × (own_size h (bound_in b) k ≤ length out.old) }
+    ensures { Wrote (own_push h (bound_in b) (take k q.now)) out.old out.new result }
 {
     if stays_put(h) {
         if wraps(h, b) {
@@ -116,8 +116,8 @@ fn write_own(q: &[u8], h: Head, b: Bound, k: usize, out: &mut [u8]) -> usize
 
 // The push of the node that a part starts with, at the front of the output.
 fn push_node(q: &[u8], b: Bound, out: &mut [u8]) -> Pushed
-    requires { Pushable q.now (boundIn b) (length out.old) }
-    ensures { Pushes q.now (boundIn b) out.old out.new result }
+    requires { Pushable q.now (bound_in b) (length out.old) }
+    ensures { Pushes q.now (bound_in b) out.old out.new result }
 {
     let h = read_own(q);
     let NodeRead::Node(head, k) = h else {
@@ -156,7 +156,7 @@ fn answer_of(p: Pushed) -> RewriteAnswer
 
 // The rewriting of a query: refusals 5 to 7, then 9 where the output is too short; else the push at the front of the output.
 pub fn rewrite(q: &[u8], out: &mut [u8]) -> RewriteAnswer
-    ensures { rewrittenIn result out.new ≡ Rewrite.rewrite q.now out.old }
+    ensures { rewritten_in result out.new ≡ Rewrite.rewrite q.now out.old }
 {
     if let QueryAnswer::Refused { number, place } = check_query(q, REWRITE_LIMIT) {
         return RewriteAnswer::Refused { number, place };

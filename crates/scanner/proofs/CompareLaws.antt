@@ -29,11 +29,11 @@ common-within (c ∷ w) (b ∷ t) =
 -- the first i bytes agree
 pub record Agree (w t : List ℕ) (i : ℕ) : Type 0 where
   pub in_word : i ≤ length w
-  pub inText : i ≤ length t
+  pub in_text : i ≤ length t
   pub so : common w t ≡ i + common (drop i w) (drop i t)
 
 pub agree-none : (w t : List ℕ) → Agree w t 0
-agree-none w t = record { in_word = omega arith; inText = omega arith; so = omega arith }
+agree-none w t = record { in_word = omega arith; in_text = omega arith; so = omega arith }
 
 module _ (w t : List ℕ) (i : ℕ) where
   -- nothing more is common
@@ -58,7 +58,7 @@ module _ (w t : List ℕ) (i : ℕ) where
     agree-one e r =
         let q : common (drop i w) (drop i t) ≡ suc (common (drop (i + 1) w) (drop (i + 1) t)) =
         rw (drop-cons w i 0 h, drop-cons t i 0 l, add-one, eq-eqb _ _ e) in
-        record { in_word = omega arith; inText = omega arith; so = omega (arith, r.so) }
+        record { in_word = omega arith; in_text = omega arith; so = omega (arith, r.so) }
 
 -- ---- the comparison
 

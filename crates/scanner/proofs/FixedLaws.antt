@@ -8,8 +8,8 @@ use native.Mathlib.Omega.{arith}
 use lib.Dec.{eqb}
 use lib.ListN.{length, drop, get_or}
 use lib.Seq.{drop-drop}
-use Rattle.grammar.specs.Tokens.{Token, mark, isCapital, isWordNumberOrVariable}
-use Rattle.grammar.specs.Automaton.{Symbol, Entry, marks, gap, inMark, within, stop, Outcome, fault, after, run}
+use Rattle.grammar.specs.Tokens.{Token, mark, is_capital, is_word_number_or_variable}
+use Rattle.grammar.specs.Automaton.{Symbol, Entry, marks, gap, in_mark, within, stop, Outcome, fault, after, run}
 use Rattle.grammar.proofs.Complete.{at_mark}
 use Rattle.scanner.specs.Scans.{common}
 use Rattle.scanner.proofs.RunLaws.{after_nothing, moved, run-cons, run_step}
@@ -19,12 +19,12 @@ use Rattle.scanner.proofs.RunLaws.{after_nothing, moved, run-cons, run_step}
 module _ (tok : Token) (σ : List Symbol) where
   -- the token was read, and the text goes on with t at place n
   abbrev behind : List ℕ → ℕ → Outcome
-  behind t n = after (tok ∷ []) (run t n (gap (isWordNumberOrVariable tok) σ))
+  behind t n = after (tok ∷ []) (run t n (gap (is_word_number_or_variable tok) σ))
 
   -- one byte more
   within-cons : (c : ℕ) (w : List ℕ) (b : ℕ) (t : List ℕ) (n : ℕ)
       → moved (b ∷ t) n (within (c ∷ w) tok σ) ≡ moved t (suc n) (cond (eqb b c) (within w tok σ) stop)
-  within-cons c w b t n = after_nothing (run (b ∷ t) (suc n) (inMark c w tok σ)) ∙ run-cons b t (suc n) (inMark c w tok σ)
+  within-cons c w b t n = after_nothing (run (b ∷ t) (suc n) (in_mark c w tok σ)) ∙ run-cons b t (suc n) (in_mark c w tok σ)
 
   within-whole : (w t : List ℕ) (n : ℕ) → common w t ≡ length w
       → moved t n (within w tok σ) ≡ behind (drop (length w) t) (n + suc (length w))
@@ -54,7 +54,7 @@ module _ (tok : Token) (σ : List Symbol) where
 
 -- the token of an entry that the symbol X allows, with its first byte at a place of the text
 module _ (X : Symbol) (e : Entry) (m : Memᴰ e (marks X)) (a : Bool) (σ : List Symbol) (s : List ℕ) (at : ℕ) (h : at < length s)
-    (first : get_or s at 0 ≡ get_or e.0 0 0) (loose : (a && isCapital (get_or e.0 0 0)) ≡ false) where
+    (first : get_or s at 0 ≡ get_or e.0 0 0) (loose : (a && is_capital (get_or e.0 0 0)) ≡ false) where
   -- the bytes behind the first one, and the text there
   abbrev later : List ℕ
   later = drop 1 e.0

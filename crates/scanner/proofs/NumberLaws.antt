@@ -13,8 +13,8 @@ use lib.ListN.{length, drop, get_or, drop_of_length-le}
 use borrow.Author.Tests.{le-leb, lt-leb, leb-true}
 use Rattle.tsparql.proofs.ListLaws.{and_left, and_right}
 use Rattle.grammar.proofs.Basics.{cond_cases, ahead}
-use Rattle.grammar.specs.Automaton.{Symbol, Kind, tokenOf, gap, first, inNumber, digit, inGap, fault, after, finish, run}
-use Rattle.scanner.specs.Scans.{goesOn, numberFrom, valueIn, numeralFrom}
+use Rattle.grammar.specs.Automaton.{Symbol, Kind, token_of, gap, first, in_number, digit, in_gap, fault, after, finish, run}
+use Rattle.scanner.specs.Scans.{goes_on, number_from, value_in, numeral_from}
 use Rattle.scanner.specs.declared.Numeric.{Numeric}
 use Rattle.scanner.specs.declared.Digits.{Digits}
 use Rattle.scanner.specs.declared.Digits.TheVariants.{Value, Missing}
@@ -31,7 +31,7 @@ above-digits b h = rw (lt-leb b 57 h, B.and-false (leb 48 b))
 digit-most : (b : ℕ) → digit b ≡ true → b ≤ 57
 digit-most b e = leb-true b 57 (and_right (leb 48 b) (leb b 57) e)
 
-goes-within : (u v b : ℕ) → goesOn u v b ≡ true → v * 10 + (b - 48) ≤ u
+goes-within : (u v b : ℕ) → goes_on u v b ≡ true → v * 10 + (b - 48) ≤ u
 goes-within u v b e =
     let x = v * 10 + (b - 48) in
     leb-true x u (and_right (leb 1 v) (leb x u) (and_right (digit b) (leb 1 v && leb x u) e))
@@ -42,76 +42,76 @@ goes-within u v b e =
 pub record Reading (s : List ℕ) (u v at x i : ℕ) : Type 0 where
   pub inside : i ≤ length s
   pub most : x ≤ u
-  pub same : numberFrom u v at (drop at s) ≡ numberFrom u x i (drop i s)
+  pub same : number_from u v at (drop at s) ≡ number_from u x i (drop i s)
 
 pub reading-first : (s : List ℕ) (u v at : ℕ) → at ≤ length s → v ≤ u → Reading s u v at v at
 reading-first s u v at h l = record { inside = h; most = l; same = refl }
 
 module _ (s : List ℕ) (u v at x i : ℕ) (k : Reading s u v at x i) where
-  pub reading-end : length s ≤ i → record { value = x; next = i } ≡ numberFrom u v at (drop at s)
-  unfolding numberFrom
+  pub reading-end : length s ≤ i → record { value = x; next = i } ≡ number_from u v at (drop at s)
+  unfolding number_from
   reading-end h = sym (k.same ∙ rw (drop_of_length-le s h))
 
   module _ (h : i < length s) where
     -- the byte at i, and the value with it as a digit
-    abbrev digitByte : ℕ
-    digitByte = get_or s i 0
+    abbrev digit_byte : ℕ
+    digit_byte = get_or s i 0
 
     abbrev grown : ℕ
-    grown = x * 10 + (digitByte - 48)
+    grown = x * 10 + (digit_byte - 48)
 
-    pub reading-one : 48 ≤ digitByte → digitByte ≤ 57 → 1 ≤ x → grown ≤ u → Reading s u v at grown (i + 1)
-    unfolding numberFrom
+    pub reading-one : 48 ≤ digit_byte → digit_byte ≤ 57 → 1 ≤ x → grown ≤ u → Reading s u v at grown (i + 1)
+    unfolding number_from
     reading-one l m p q =
-        let e : goesOn u x digitByte ≡ true = rw (le-leb 48 digitByte l, le-leb digitByte 57 m, le-leb 1 x p, le-leb grown u q) in
+        let e : goes_on u x digit_byte ≡ true = rw (le-leb 48 digit_byte l, le-leb digit_byte 57 m, le-leb 1 x p, le-leb grown u q) in
         record { inside = omega arith; most = q; same = k.same ∙ rw (ahead s i h, e, add-one i) }
 
-    reading-stop : goesOn u x digitByte ≡ false → record { value = x; next = i } ≡ numberFrom u v at (drop at s)
-    unfolding numberFrom
+    reading-stop : goes_on u x digit_byte ≡ false → record { value = x; next = i } ≡ number_from u v at (drop at s)
+    unfolding number_from
     reading-stop e = sym (k.same ∙ rw (ahead s i h, e))
 
-    pub reading-below : digitByte < 48 → record { value = x; next = i } ≡ numberFrom u v at (drop at s)
-    reading-below l = reading-stop (rw (below-digits digitByte l))
+    pub reading-below : digit_byte < 48 → record { value = x; next = i } ≡ number_from u v at (drop at s)
+    reading-below l = reading-stop (rw (below-digits digit_byte l))
 
-    pub reading-above : 57 < digitByte → record { value = x; next = i } ≡ numberFrom u v at (drop at s)
-    reading-above m = reading-stop (rw (above-digits digitByte m))
+    pub reading-above : 57 < digit_byte → record { value = x; next = i } ≡ number_from u v at (drop at s)
+    reading-above m = reading-stop (rw (above-digits digit_byte m))
 
-    pub reading-zero : x ≡ 0 → record { value = x; next = i } ≡ numberFrom u v at (drop at s)
-    reading-zero z = reading-stop (rw (lt-leb 1 x (omega arith), B.and-false (digit digitByte)))
+    pub reading-zero : x ≡ 0 → record { value = x; next = i } ≡ number_from u v at (drop at s)
+    reading-zero z = reading-stop (rw (lt-leb 1 x (omega arith), B.and-false (digit digit_byte)))
 
-    pub reading-great : u < grown → record { value = x; next = i } ≡ numberFrom u v at (drop at s)
-    reading-great g = reading-stop (rw (lt-leb grown u g, B.and-false (leb 1 x), B.and-false (digit digitByte)))
+    pub reading-great : u < grown → record { value = x; next = i } ≡ number_from u v at (drop at s)
+    reading-great g = reading-stop (rw (lt-leb grown u g, B.and-false (leb 1 x), B.and-false (digit digit_byte)))
 
 -- ---- the first digit
 
-pub numeral-end : (s : List ℕ) (at l u : ℕ) → length s ≤ at → Missing ≡ numeralFrom l u at (drop at s)
-unfolding numeralFrom
+pub numeral-end : (s : List ℕ) (at l u : ℕ) → length s ≤ at → Missing ≡ numeral_from l u at (drop at s)
+unfolding numeral_from
 numeral-end s at l u h = sym (rw (drop_of_length-le s h))
 
 module _ (s : List ℕ) (at l u : ℕ) (h : at < length s) where
-  abbrev digitValue : ℕ
-  digitValue = get_or s at 0 - 48
+  abbrev digit_value : ℕ
+  digit_value = get_or s at 0 - 48
 
-  numeral-missing : (digit (get_or s at 0) && leb l digitValue) ≡ false → Missing ≡ numeralFrom l u at (drop at s)
-  unfolding numeralFrom
+  numeral-missing : (digit (get_or s at 0) && leb l digit_value) ≡ false → Missing ≡ numeral_from l u at (drop at s)
+  unfolding numeral_from
   numeral-missing e = sym (rw (ahead s at h, e))
 
-  pub numeral-below : get_or s at 0 < 48 → Missing ≡ numeralFrom l u at (drop at s)
+  pub numeral-below : get_or s at 0 < 48 → Missing ≡ numeral_from l u at (drop at s)
   numeral-below b = numeral-missing (rw (below-digits (get_or s at 0) b))
 
-  pub numeral-above : 57 < get_or s at 0 → Missing ≡ numeralFrom l u at (drop at s)
+  pub numeral-above : 57 < get_or s at 0 → Missing ≡ numeral_from l u at (drop at s)
   numeral-above b = numeral-missing (rw (above-digits (get_or s at 0) b))
 
-  pub numeral-small : digitValue < l → Missing ≡ numeralFrom l u at (drop at s)
-  numeral-small b = numeral-missing (rw (lt-leb l digitValue b, B.and-false (digit (get_or s at 0))))
+  pub numeral-small : digit_value < l → Missing ≡ numeral_from l u at (drop at s)
+  numeral-small b = numeral-missing (rw (lt-leb l digit_value b, B.and-false (digit (get_or s at 0))))
 
   pub numeral-value :
-      (n : Numeric) → 48 ≤ get_or s at 0 → get_or s at 0 ≤ 57 → l ≤ digitValue → n ≡ numberFrom u digitValue (at + 1) (drop (at + 1) s)
-      → Value n.value n.next ≡ numeralFrom l u at (drop at s)
-  unfolding numeralFrom
+      (n : Numeric) → 48 ≤ get_or s at 0 → get_or s at 0 ≤ 57 → l ≤ digit_value → n ≡ number_from u digit_value (at + 1) (drop (at + 1) s)
+      → Value n.value n.next ≡ numeral_from l u at (drop at s)
+  unfolding numeral_from
   numeral-value n a b g e =
       ap (λ (m : Numeric). Value m.value m.next) e
-      ∙ sym (rw (ahead s at h, le-leb 48 (get_or s at 0) a, le-leb (get_or s at 0) 57 b, le-leb l digitValue g, add-one at))
+      ∙ sym (rw (ahead s at h, le-leb 48 (get_or s at 0) a, le-leb (get_or s at 0) 57 b, le-leb l digit_value g, add-one at))
 
 -- ---- what the answer of `number` says
 
@@ -122,23 +122,23 @@ record Counted (s : List ℕ) (u v at value next : ℕ) : Type 0 where
   pub most : value ≤ u
   pub runs :
       (k : Kind) (σ : List Symbol)
-      → run (drop at s) at (inNumber u v k σ) ≡ after (tokenOf k value ∷ []) (run (drop next s) next (gap true σ))
+      → run (drop at s) at (in_number u v k σ) ≡ after (token_of k value ∷ []) (run (drop next s) next (gap true σ))
 
 module _ (s : List ℕ) (u v at : ℕ) where
   -- it ends at `at`
   counted-here :
       at ≤ length s → v ≤ u
       → ((k : Kind) (σ : List Symbol)
-      → run (drop at s) at (inNumber u v k σ) ≡ after (tokenOf k v ∷ []) (run (drop at s) at (gap true σ)))
+      → run (drop at s) at (in_number u v k σ) ≡ after (token_of k v ∷ []) (run (drop at s) at (gap true σ)))
       → Counted s u v at v at
   counted-here h m r = record { forward = le_refl at; inside = h; most = m; runs = r }
 
   counted-end : at ≤ length s → v ≤ u → length s ≤ at → Counted s u v at v at
   counted-end h m e =
       counted-here h m λ k σ.
-      end-at s at (inNumber u v k σ) e ∙ finished k σ ∙ ap (after (tokenOf k v ∷ [])) (sym (end-at s at (gap true σ) e))
+      end-at s at (in_number u v k σ) e ∙ finished k σ ∙ ap (after (token_of k v ∷ [])) (sym (end-at s at (gap true σ) e))
     where
-      finished : (k : Kind) (σ : List Symbol) → finish at (inNumber u v k σ) ≡ after (tokenOf k v ∷ []) (finish at (gap true σ))
+      finished : (k : Kind) (σ : List Symbol) → finish at (in_number u v k σ) ≡ after (token_of k v ∷ []) (finish at (gap true σ))
       finished k [] = refl
       finished k (X ∷ σ) = refl
 
@@ -146,29 +146,29 @@ module _ (s : List ℕ) (u v at : ℕ) where
     abbrev byte : ℕ
     byte = get_or s at 0
 
-    counted_stop : v ≤ u → goesOn u v byte ≡ false → Counted s u v at v at
+    counted_stop : v ≤ u → goes_on u v byte ≡ false → Counted s u v at v at
     counted_stop m e =
         counted-here (omega arith) m λ k σ.
-        run_step s at (inNumber u v k σ) h ∙ rw e (moved-prepend (drop (at + 1) s) at (tokenOf k v) (inGap true σ byte))
-        ∙ ap (after (tokenOf k v ∷ [])) (sym (run_step s at (gap true σ) h))
+        run_step s at (in_number u v k σ) h ∙ rw e (moved-prepend (drop (at + 1) s) at (token_of k v) (in_gap true σ byte))
+        ∙ ap (after (token_of k v ∷ [])) (sym (run_step s at (gap true σ) h))
 
     counted-more :
-        (value next : ℕ) → goesOn u v byte ≡ true → Counted s u (v * 10 + (byte - 48)) (at + 1) value next → Counted s u v at value next
+        (value next : ℕ) → goes_on u v byte ≡ true → Counted s u (v * 10 + (byte - 48)) (at + 1) value next → Counted s u v at value next
     counted-more value next e c =
         let f = c.forward in
         record {
           forward = omega arith;
           inside = c.inside;
           most = c.most;
-          runs = λ k σ. move_at s at (inNumber u v k σ) (inNumber u (v * 10 + (byte - 48)) k σ) h (rw e) ∙ c.runs k σ;
+          runs = λ k σ. move_at s at (in_number u v k σ) (in_number u (v * 10 + (byte - 48)) k σ) h (rw e) ∙ c.runs k σ;
         }
 
 abbrev CountedAs : List ℕ → ℕ → ℕ → ℕ → Numeric → Type 0
 CountedAs s u v at n = Counted s u v at n.value n.next
 
 -- with m bytes to the end
-counted-from : (m : ℕ) (s : List ℕ) (u v at : ℕ) → at + m ≡ length s → v ≤ u → CountedAs s u v at (numberFrom u v at (drop at s))
-unfolding numberFrom
+counted-from : (m : ℕ) (s : List ℕ) (u v at : ℕ) → at + m ≡ length s → v ≤ u → CountedAs s u v at (number_from u v at (drop at s))
+unfolding number_from
 counted-from zero s u v at l q =
     let h : length s ≤ at = omega arith in
     rw (drop_of_length-le s h) (counted-end s u v at (omega arith) q h)
@@ -177,7 +177,7 @@ counted-from (suc m) s u v at l q =
     let b = get_or s at 0 in
     let x = v * 10 + (b - 48) in
     rw (ahead s at h)
-    (cond_cases (CountedAs s u v at) (goesOn u v b)
+    (cond_cases (CountedAs s u v at) (goes_on u v b)
     (λ e. rw (← add-one at) (counted-more s u v at h _ _ e (counted-from m s u x (at + 1) (omega arith) (goes-within u v b e))))
     (λ e. counted_stop s u v at h q e))
 
@@ -190,7 +190,7 @@ pub record Valued (s : List ℕ) (at l u value next : ℕ) : Type 0 where
   pub most : value ≤ u
   pub runs :
       (k : Kind) (σ : List Symbol)
-      → run (drop at s) at (first l u k σ) ≡ after (tokenOf k value ∷ []) (run (drop next s) next (gap true σ))
+      → run (drop at s) at (first l u k σ) ≡ after (token_of k value ∷ []) (run (drop next s) next (gap true σ))
 
 -- no number from l on begins at `at`
 pub record Lacking (s : List ℕ) (at l u : ℕ) : Type 0 where
@@ -213,7 +213,7 @@ module _ (s : List ℕ) (at l u : ℕ) where
     lacks : begins ≡ false → Lacking s at l u
     lacks e = record { runs = λ k σ. stop-at s at (first l u k σ) h (rw e) }
 
-    values : 9 ≤ u → begins ≡ true → Begun s at l u (valueIn (numberFrom u (head - 48) (at + 1) (drop (at + 1) s)))
+    values : 9 ≤ u → begins ≡ true → Begun s at l u (value_in (number_from u (head - 48) (at + 1) (drop (at + 1) s)))
     values q e =
         let m = digit-most head (and_left (digit head) (leb l (head - 48)) e) in
         let c = counted-from (length s - (at + 1)) s u (head - 48) (at + 1) (omega arith) (omega arith) in
@@ -222,12 +222,12 @@ module _ (s : List ℕ) (at l u : ℕ) where
           forward = omega arith;
           inside = c.inside;
           most = c.most;
-          runs = λ k σ. move_at s at (first l u k σ) (inNumber u (head - 48) k σ) h (rw e) ∙ c.runs k σ;
+          runs = λ k σ. move_at s at (first l u k σ) (in_number u (head - 48) k σ) h (rw e) ∙ c.runs k σ;
         }
 
   -- with m bytes to the end
-  begun : (m : ℕ) → at + m ≡ length s → 9 ≤ u → Begun s at l u (numeralFrom l u at (drop at s))
-  unfolding numeralFrom
+  begun : (m : ℕ) → at + m ≡ length s → 9 ≤ u → Begun s at l u (numeral_from l u at (drop at s))
+  unfolding numeral_from
   begun zero e q =
       let h : length s ≤ at = omega arith in
       rw (drop_of_length-le s h) (record { runs = λ k σ. end-at s at (first l u k σ) h })
@@ -235,5 +235,5 @@ module _ (s : List ℕ) (at l u : ℕ) where
       let h : at < length s = omega arith in
       rw (ahead s at h, ← add-one at) (cond_cases (Begun s at l u) (begins h) (values h q) (lacks h))
 
-  pub numeral-says : (d : Digits) → at ≤ length s → 9 ≤ u → d ≡ numeralFrom l u at (drop at s) → Begun s at l u d
+  pub numeral-says : (d : Digits) → at ≤ length s → 9 ≤ u → d ≡ numeral_from l u at (drop at s) → Begun s at l u d
   numeral-says d h q e = subst (Begun s at l u) (sym e) (begun (length s - at) (omega arith) q)

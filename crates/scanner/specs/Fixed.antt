@@ -6,17 +6,17 @@ use Rattle.scanner.specs.declared.Literal.{Literal}
 use Rattle.scanner.specs.declared.Literal.TheVariants as L
 
 -- BOUND, TRUST and AS; any other byte is a token of its own
-abbrev pub shortKeyword : ℕ → List ℕ
-shortKeyword b = cond (eqb b 66) T.BOUND (cond (eqb b 84) T.TRUST (cond (eqb b 65) T.AS (b ∷ [])))
+abbrev pub short_keyword : ℕ → List ℕ
+short_keyword b = cond (eqb b 66) T.BOUND (cond (eqb b 84) T.TRUST (cond (eqb b 65) T.AS (b ∷ [])))
 
 -- the other keywords besides
-abbrev pub keywordOf : ℕ → List ℕ
-keywordOf b =
-    cond (eqb b 79) T.OPTIONAL (cond (eqb b 85) T.UNION (cond (eqb b 70) T.FILTER (cond (eqb b 69) T.ENSURE (shortKeyword b))))
+abbrev pub keyword_of : ℕ → List ℕ
+keyword_of b =
+    cond (eqb b 79) T.OPTIONAL (cond (eqb b 85) T.UNION (cond (eqb b 70) T.FILTER (cond (eqb b 69) T.ENSURE (short_keyword b))))
 
 -- and `&&` and `||`
-abbrev pub fixedToken : ℕ → List ℕ
-fixedToken b = cond (eqb b 38) T.AND (cond (eqb b 124) T.OR (keywordOf b))
+abbrev pub fixed_token : ℕ → List ℕ
+fixed_token b = cond (eqb b 38) T.AND (cond (eqb b 124) T.OR (keyword_of b))
 
 -- whether the text has the token whole, and how many bytes of it
 abbrev pub compared : List ℕ → List ℕ → Literal

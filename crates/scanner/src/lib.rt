@@ -1,15 +1,15 @@
 // What a text has at a place: white space, fixed tokens, numbers.
 ghost use Rattle.std.specs.Prelude.{◌≡◌, ◌≤◌, ◌<◌, length, drop, get_or};
-ghost use Rattle.grammar.specs.Tokens.{isCapital};
-ghost use Rattle.scanner.specs.Scans.{skipFrom, common, numberFrom, numeralFrom};
-ghost use Rattle.scanner.specs.Fixed.{compared, shortKeyword, keywordOf, fixedToken};
+ghost use Rattle.grammar.specs.Tokens.{is_capital};
+ghost use Rattle.scanner.specs.Scans.{skip_from, common, number_from, numeral_from};
+ghost use Rattle.scanner.specs.Fixed.{compared, short_keyword, keyword_of, fixed_token};
 
 // ---- white space
 
 // The first place from a place on that holds none.
 pub fn skip(s: &[u8], at: usize) -> usize
     requires { at ≤ length s.now }
-    ensures { result ≡ skipFrom at (drop at s.now) }
+    ensures { result ≡ skip_from at (drop at s.now) }
 {
     let mut i = at;
     while i < s.len() {
@@ -65,7 +65,7 @@ fn compare(text: &[u8], word: &[u8]) -> Literal
 // BOUND, TRUST and AS, and the tokens of one byte.
 fn short_keyword(text: &[u8], first: u8) -> Literal
     requires { (0 < length text.now) × (get_or text.now 0 0 ≡ first) }
-    ensures { result ≡ compared (shortKeyword first) text.now }
+    ensures { result ≡ compared (short_keyword first) text.now }
 {
     match first {
         b'B' => compare(text, b"BOUND"),
@@ -78,7 +78,7 @@ fn short_keyword(text: &[u8], first: u8) -> Literal
 // The other keywords besides.
 fn keyword(text: &[u8], first: u8) -> Literal
     requires { (0 < length text.now) × (get_or text.now 0 0 ≡ first) }
-    ensures { result ≡ compared (keywordOf first) text.now }
+    ensures { result ≡ compared (keyword_of first) text.now }
 {
     match first {
         b'O' => compare(text, b"OPTIONAL"),
@@ -92,7 +92,7 @@ fn keyword(text: &[u8], first: u8) -> Literal
 // The same of the fixed token with this first byte.
 pub fn fixed_token(text: &[u8], first: u8) -> Literal
     requires { (0 < length text.now) × (get_or text.now 0 0 ≡ first) }
-    ensures { result ≡ compared (fixedToken first) text.now }
+    ensures { result ≡ compared (fixed_token first) text.now }
 {
     match first {
         b'&' => compare(text, b"&&"),
@@ -103,7 +103,7 @@ pub fn fixed_token(text: &[u8], first: u8) -> Literal
 
 // A to Z.
 pub fn capital(b: u8) -> bool
-    ensures { result ≡ isCapital b }
+    ensures { result ≡ is_capital b }
 {
     if b < 65 {
         return false;
@@ -123,7 +123,7 @@ pub struct Numeric {
 // The number that begins with the value v and goes on with the digits from a place on, as far as it stays within u.
 fn number(s: &[u8], at: usize, v: u32, u: u32) -> Numeric
     requires { (at ≤ length s.now) × (v ≤ u) × (u < 2000000) }
-    ensures { result ≡ numberFrom u v at (drop at s.now) }
+    ensures { result ≡ number_from u v at (drop at s.now) }
 {
     let mut i = at;
     let mut x = v;
@@ -158,7 +158,7 @@ pub enum Digits {
 // A number from l, 0 or 1, to u whose first digit stands at a place.
 pub fn numeral(s: &[u8], at: usize, l: u32, u: u32) -> Digits
     requires { (at ≤ length s.now) × (l ≤ 1) × (9 ≤ u) × (u < 2000000) }
-    ensures { result ≡ numeralFrom l u at (drop at s.now) }
+    ensures { result ≡ numeral_from l u at (drop at s.now) }
 {
     if s.len() <= at {
         return Digits::Missing;

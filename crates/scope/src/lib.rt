@@ -1,10 +1,10 @@
 // The variables of a query, for refusal 7, and the check of a query: refusals 5 to 7.
 ghost use Rattle.std.specs.Prelude.{◌≡◌, ◌≤◌, length};
-ghost use Rattle.tsparql.specs.Reading.{slot_of, queryNode};
-ghost use Rattle.tsparql.specs.Check.{slotVariables, variablesOf, variablesRefusal};
-ghost use Rattle.slots.specs.Answers.{patternIn};
+ghost use Rattle.tsparql.specs.Reading.{slot_of, query_node};
+ghost use Rattle.tsparql.specs.Check.{slot_variables, variables_of, variables_refusal};
+ghost use Rattle.slots.specs.Answers.{pattern_in};
 ghost use Rattle.query.specs.Found.{PatternsSound, NodeSound, node_of, QuerySound};
-ghost use Rattle.scope.specs.Variables.{has, patternsOf, ownUses, projectedIn, clashesWith, clashAt, clashIn, Checked};
+ghost use Rattle.scope.specs.Variables.{has, patterns_of, own_uses, projected_in, clashes_with, clash_at, clash_in, Checked};
 
 use heads::{FAULT, Head, NodeRead, node_fault, read_head};
 use query::{Place, next_node, read_node};
@@ -26,7 +26,7 @@ pub enum QueryAnswer {
 
 // The variable stands at the slot.
 fn slot_has(x: u32, v: u8) -> bool
-    ensures { result ≡ has v (slotVariables (slot_of x)) }
+    ensures { result ≡ has v (slot_variables (slot_of x)) }
 {
     if x < FIRST_VARIABLE {
         false
@@ -38,7 +38,7 @@ fn slot_has(x: u32, v: u8) -> bool
 
 // The variable stands in the pattern.
 fn pattern_has(p: Pattern, v: u8) -> bool
-    ensures { result ≡ has v (variablesOf (patternIn p)) }
+    ensures { result ≡ has v (variables_of (pattern_in p)) }
 {
     if slot_has(p.subject, v) {
         return true;
@@ -52,7 +52,7 @@ fn pattern_has(p: Pattern, v: u8) -> bool
 // The variable stands in one of n patterns from a place on.
 fn patterns_have(q: &[u8], at: usize, n: u8, v: u8) -> bool
     requires { (at ≤ length q.now) × PatternsSound n at q.now }
-    ensures { result ≡ has v (patternsOf n at q.now) }
+    ensures { result ≡ has v (patterns_of n at q.now) }
 {
     let mut p = at;
     let mut left = n;
@@ -70,7 +70,7 @@ fn patterns_have(q: &[u8], at: usize, n: u8, v: u8) -> bool
 // How a node itself uses a variable: 2 in a pattern, 1 to project its trust, else 0.
 fn own_uses(q: &[u8], v: u8) -> u32
     requires { NodeSound q.now }
-    ensures { result ≡ ownUses v (node_of q.now) }
+    ensures { result ≡ own_uses v (node_of q.now) }
 {
     let h = read_head(q);
     let NodeRead::Node(head, own) = h else {
@@ -89,7 +89,7 @@ fn own_uses(q: &[u8], v: u8) -> u32
 
 // The variable that a node projects its trust to, or 16 where it is another node.
 fn projected(q: &[u8]) -> u8
-    ensures { result ≡ projectedIn q.now }
+    ensures { result ≡ projected_in q.now }
 {
     let h = read_head(q);
     let NodeRead::Node(head, _) = h else {
@@ -109,7 +109,7 @@ fn projected(q: &[u8]) -> u8
 // The variable stands in a pattern of the query, or in two of its project trust nodes.
 fn clashes(q: &[u8], v: u8) -> bool
     requires { QuerySound q.now }
-    ensures { result ≡ clashesWith q.now v }
+    ensures { result ≡ clashes_with q.now v }
 {
     let mut at = 0;
     let mut seen = 0;
@@ -130,7 +130,7 @@ fn clashes(q: &[u8], v: u8) -> bool
 // The node at a place projects its trust to a variable that clashes.
 fn clash_at(q: &[u8], at: usize) -> bool
     requires { QuerySound q.now × (at ≤ length q.now) }
-    ensures { result ≡ clashAt q.now at }
+    ensures { result ≡ clash_at q.now at }
 {
     let v = projected(&q[at..]);
     if v < 16 { clashes(q, v) } else { false }
@@ -139,7 +139,7 @@ fn clash_at(q: &[u8], at: usize) -> bool
 // The first project trust node whose variable clashes.
 fn first_clash(q: &[u8]) -> Clash
     requires { QuerySound q.now }
-    ensures { clashIn result ≡ variablesRefusal (queryNode q.now) }
+    ensures { clash_in result ≡ variables_refusal (query_node q.now) }
 {
     let mut at = 0;
     while at < q.len() {

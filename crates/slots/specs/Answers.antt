@@ -1,24 +1,24 @@
 -- The answers of the readers of patterns, in the definitions' terms. Assumes nothing.
 use Rattle.std.specs.Prelude.{Bool, ◌&&◌, List, ℕ}
 use Rattle.tsparql.specs.Query as Query
-use Rattle.tsparql.specs.Reading.{Read, got, fault, bits24, slotSound, slot_of}
+use Rattle.tsparql.specs.Reading.{Read, got, fault, bits24, slot_sound, slot_of}
 use Rattle.slots.specs.declared.Pattern.{Pattern}
 use Rattle.slots.specs.declared.PatternRead.{PatternRead}
 use Rattle.slots.specs.declared.PatternRead.TheVariants as P
 
 -- a pattern by its slots' numbers
-abbrev pub patternIn : Pattern → Query.Pattern
-patternIn p = record { subject = slot_of p.subject; predicate = slot_of p.predicate; object = slot_of p.object }
+abbrev pub pattern_in : Pattern → Query.Pattern
+pattern_in p = record { subject = slot_of p.subject; predicate = slot_of p.predicate; object = slot_of p.object }
 
 -- the slots of a part's first 9 bytes
-abbrev pub slotsAt : List ℕ → Pattern
-slotsAt s = record { subject = bits24 s 0; predicate = bits24 s 3; object = bits24 s 6 }
+abbrev pub slots_at : List ℕ → Pattern
+slots_at s = record { subject = bits24 s 0; predicate = bits24 s 3; object = bits24 s 6 }
 
 -- each slot is a term or a variable
-abbrev pub slotsSound : Pattern → Bool
-slotsSound p = slotSound p.subject && slotSound p.predicate && slotSound p.object
+abbrev pub slots_sound : Pattern → Bool
+slots_sound p = slot_sound p.subject && slot_sound p.predicate && slot_sound p.object
 
 -- the pattern and the next place, or the fault
-abbrev pub patternFound : PatternRead → Read Query.Pattern
-patternFound (P.Found p n) = got (patternIn p) n
-patternFound (P.Fault k) = fault k
+abbrev pub pattern_found : PatternRead → Read Query.Pattern
+pattern_found (P.Found p n) = got (pattern_in p) n
+pattern_found (P.Fault k) = fault k

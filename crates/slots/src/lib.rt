@@ -1,7 +1,7 @@
 // Readers of a query's 24 bits: terms, slots, and patterns of three slots.
 ghost use Rattle.std.specs.Prelude.{◌≡◌, ◌+◌, ◌≤◌, ◌<◌, length};
-ghost use Rattle.tsparql.specs.Reading.{bits24, termSound, slotSound, readPattern};
-ghost use Rattle.slots.specs.Answers.{slotsAt, slotsSound, patternFound};
+ghost use Rattle.tsparql.specs.Reading.{bits24, term_sound, slot_sound, read_pattern};
+ghost use Rattle.slots.specs.Answers.{slots_at, slots_sound, pattern_found};
 
 // A slot below this number is a term, any other a variable.
 pub const FIRST_VARIABLE: u32 = 1048576;
@@ -42,14 +42,14 @@ pub fn bits_at(q: &[u8], at: usize) -> u32
 
 // The number is 4 zero bits and a term.
 pub fn term_sound(x: u32) -> bool
-    ensures { result ≡ termSound x }
+    ensures { result ≡ term_sound x }
 {
     if 0 < x { x < FIRST_VARIABLE } else { false }
 }
 
 // The number is a slot's: a term, or a variable.
 pub fn slot_sound(x: u32) -> bool
-    ensures { result ≡ slotSound x }
+    ensures { result ≡ slot_sound x }
 {
     if term_sound(x) {
         return true;
@@ -64,7 +64,7 @@ pub fn slot_sound(x: u32) -> bool
 // The pattern of a part's first 9 bytes, whatever they hold.
 pub fn pattern_at(q: &[u8]) -> Pattern
     requires { 9 ≤ length q.now }
-    ensures { result ≡ slotsAt q.now }
+    ensures { result ≡ slots_at q.now }
 {
     let subject = bits_at(q, 0);
     let predicate = bits_at(q, 3);
@@ -78,7 +78,7 @@ pub fn pattern_at(q: &[u8]) -> Pattern
 
 // Each slot is a term or a variable.
 fn pattern_sound(p: Pattern) -> bool
-    ensures { result ≡ slotsSound p }
+    ensures { result ≡ slots_sound p }
 {
     if slot_sound(p.subject) {
         if slot_sound(p.predicate) {
@@ -90,7 +90,7 @@ fn pattern_sound(p: Pattern) -> bool
 
 // The pattern that a part starts with.
 pub fn read_pattern(q: &[u8]) -> PatternRead
-    ensures { patternFound result ≡ readPattern q.now }
+    ensures { pattern_found result ≡ read_pattern q.now }
 {
     if q.len() < PATTERN_BYTES {
         return PatternRead::Fault(0);

@@ -1,8 +1,8 @@
 -- What the answers of this crate's code mean in the terms of the definitions: the fields of a record, what the check of a table answers,
 -- and where the records of a subject start. A promise in several parts is a record. Assumes nothing.
 use Rattle.std.specs.Prelude.{◌≡◌, Bool, true, false, cond, List, ℕ, ◌+◌, ◌*◌, ◌%◌, ◌^◌, ◌≤◌, ◌<◌}
-use Rattle.tsparql.specs.Table.{View, wholeTable, recordAt, fact_of}
-use Rattle.tsparql.specs.Check.{Refusal, refuse, noRefusal, passes, tableRefusal}
+use Rattle.tsparql.specs.Table.{View, whole_table, record_at, fact_of}
+use Rattle.tsparql.specs.Check.{Refusal, refuse, no_refusal, passes, table_refusal}
 use Rattle.table.specs.declared.Fields.{Fields}
 use Rattle.table.specs.declared.TableAnswer.{TableAnswer}
 use Rattle.table.specs.declared.TableAnswer.TheVariants.{Sound, Refused}
@@ -12,32 +12,32 @@ abbrev pub number_in : Fields → ℕ
 number_in f = f.key * 2 ^ 12 + f.trust % 2 ^ 12
 
 -- nothing of a table
-abbrev pub noRecords : View
-noRecords = record { records = 0 }
+abbrev pub no_records : View
+no_records = record { records = 0 }
 
 -- what the answer lets a call see
-abbrev pub viewIn : TableAnswer → View
-viewIn (Sound v) = record { records = v.records }
-viewIn (Refused n p) = noRecords
+abbrev pub view_in : TableAnswer → View
+view_in (Sound v) = record { records = v.records }
+view_in (Refused n p) = no_records
 
 -- the answer is that the table passes
-abbrev pub soundIn : TableAnswer → Bool
-soundIn (Sound v) = true
-soundIn (Refused n p) = false
+abbrev pub sound_in : TableAnswer → Bool
+sound_in (Sound v) = true
+sound_in (Refused n p) = false
 
 -- the refusal that the answer names
-abbrev pub refusalIn : TableAnswer → Refusal
-refusalIn (Sound v) = noRefusal
-refusalIn (Refused n p) = refuse n p
+abbrev pub refusal_in : TableAnswer → Refusal
+refusal_in (Sound v) = no_refusal
+refusal_in (Refused n p) = refuse n p
 
 -- the answer names the table's refusal, and lets a call see the whole table exactly where there is none
 pub record Checked (t : List ℕ) (r : TableAnswer) : Type 0 where
-  pub sound : soundIn r ≡ passes (tableRefusal t)
-  pub refusal : refusalIn r ≡ tableRefusal t
-  pub view : viewIn r ≡ cond (passes (tableRefusal t)) (wholeTable t) noRecords
+  pub sound : sound_in r ≡ passes (table_refusal t)
+  pub refusal : refusal_in r ≡ table_refusal t
+  pub view : view_in r ≡ cond (passes (table_refusal t)) (whole_table t) no_records
 
 -- of the first n records, r is the first one whose subject is not less than a, or n where there is none
 pub record FirstFrom (t : List ℕ) (n a r : ℕ) : Type 0 where
   pub within : r ≤ n
-  pub lesser : (i : ℕ) → i < r → (fact_of (recordAt t i)).subject < a
-  pub others : (i : ℕ) → r ≤ i → i < n → a ≤ (fact_of (recordAt t i)).subject
+  pub lesser : (i : ℕ) → i < r → (fact_of (record_at t i)).subject < a
+  pub others : (i : ℕ) → r ≤ i → i < n → a ≤ (fact_of (record_at t i)).subject

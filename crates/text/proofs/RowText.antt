@@ -5,45 +5,45 @@ use Prim.Native.Nat.{ℕ, zero, suc, ◌+◌, ◌<◌}
 use native.Mathlib.Numerals.{add-one}
 use native.Mathlib.Omega.{arith}
 use lib.ListN.{get_or}
-use Rattle.tsparql.specs.Lists.{concatMap, up_from}
+use Rattle.tsparql.specs.Lists.{concat_map, up_from}
 use Rattle.tsparql.specs.Values.{cell_at}
-use Rattle.tsparql.specs.Strikes.{cellText, row_line}
-use Rattle.tsparql.proofs.ListLaws.{concatMap-append}
-use Rattle.cells.specs.Words.{wordCell}
-use Rattle.rows.specs.RowWords.{row_in, row_at, rowsIn}
-use Rattle.rows.proofs.RowWordLaws.{cellAt-rowIn, rowsIn-suc}
+use Rattle.tsparql.specs.Strikes.{cell_text, row_line}
+use Rattle.tsparql.proofs.ListLaws.{concat_map-append}
+use Rattle.cells.specs.Words.{word_cell}
+use Rattle.rows.specs.RowWords.{row_in, row_at, rows_in}
+use Rattle.rows.proofs.RowWordLaws.{cell_at-row_in, rows_in-suc}
 use Rattle.text.specs.Writing.{Puts}
 use Rattle.text.proofs.WritingLaws.{puts_then}
 
 -- one number more
-upFrom-suc : (i n : ℕ) → up_from i (suc n) ≡ up_from i n ++ ((i + n) ∷ [])
-upFrom-suc i zero = let e : i + 0 ≡ i = omega arith in rw e
-upFrom-suc i (suc n) =
+up_from-suc : (i n : ℕ) → up_from i (suc n) ≡ up_from i n ++ ((i + n) ∷ [])
+up_from-suc i zero = let e : i + 0 ≡ i = omega arith in rw e
+up_from-suc i (suc n) =
     let e : i + suc n ≡ suc i + n = omega arith in
-    ap (λ (l : List ℕ). i ∷ l) (upFrom-suc (suc i) n ∙ rw e)
+    ap (λ (l : List ℕ). i ∷ l) (up_from-suc (suc i) n ∙ rw e)
 
 -- the text of one element more
 puts-snoc : {A : Type 0} (f : A → List ℕ) (xs : List A) (x : A) {at : ℕ} {out mid out' : List ℕ} {p r : ℕ}
-    → Puts (concatMap f xs) at out mid p → Puts (f x) p mid out' r → Puts (concatMap f (xs ++ (x ∷ []))) at out out' r
+    → Puts (concat_map f xs) at out mid p → Puts (f x) p mid out' r → Puts (concat_map f (xs ++ (x ∷ []))) at out out' r
 puts-snoc f xs x a b =
-    rw (concatMap-append f xs (x ∷ []), append-nil (f x)) (puts_then a b)
+    rw (concat_map-append f xs (x ∷ []), append-nil (f x)) (puts_then a b)
 
 -- ---- cells
 
 -- the text of the first n variables of a row of words
-abbrev pub cellsBelow : List ℕ → ℕ → List ℕ
-cellsBelow row n = concatMap (λ v. cellText v (cell_at (row_in row).cells v)) (up_from 0 n)
+abbrev pub cells_below : List ℕ → ℕ → List ℕ
+cells_below row n = concat_map (λ v. cell_text v (cell_at (row_in row).cells v)) (up_from 0 n)
 
-pub cells-more : (row : List ℕ) (v : ℕ) {at : ℕ} {out mid out' : List ℕ} {p r : ℕ} → Puts (cellsBelow row v) at out mid p → v < 16
-    → Puts (cellText v (wordCell (get_or row v 0))) p mid out' r → Puts (cellsBelow row (v + 1)) at out out' r
+pub cells-more : (row : List ℕ) (v : ℕ) {at : ℕ} {out mid out' : List ℕ} {p r : ℕ} → Puts (cells_below row v) at out mid p → v < 16
+    → Puts (cell_text v (word_cell (get_or row v 0))) p mid out' r → Puts (cells_below row (v + 1)) at out out' r
 cells-more row v a h b =
     let e : 0 + v ≡ v = omega arith in
-    let more : up_from 0 (v + 1) ≡ up_from 0 v ++ (v ∷ []) = rw add-one (upFrom-suc 0 v ∙ rw e) in
-    rw more (puts-snoc (λ u. cellText u (cell_at (row_in row).cells u)) (up_from 0 v) v a (rw (cellAt-rowIn row v h) b))
+    let more : up_from 0 (v + 1) ≡ up_from 0 v ++ (v ∷ []) = rw add-one (up_from-suc 0 v ∙ rw e) in
+    rw more (puts-snoc (λ u. cell_text u (cell_at (row_in row).cells u)) (up_from 0 v) v a (rw (cell_at-row_in row v h) b))
 
 -- ---- rows
 
 pub rows_more : (n : ℕ) (ws : List ℕ) {at : ℕ} {out mid out' : List ℕ} {p r : ℕ}
-    → Puts (concatMap row_line (rowsIn n ws)) at out mid p → Puts (row_line (row_at n ws)) p mid out' r
-    → Puts (concatMap row_line (rowsIn (n + 1) ws)) at out out' r
-rows_more n ws a b = rw rowsIn-suc (puts-snoc row_line (rowsIn n ws) (row_at n ws) a b)
+    → Puts (concat_map row_line (rows_in n ws)) at out mid p → Puts (row_line (row_at n ws)) p mid out' r
+    → Puts (concat_map row_line (rows_in (n + 1) ws)) at out out' r
+rows_more n ws a b = rw rows_in-suc (puts-snoc row_line (rows_in n ws) (row_at n ws) a b)

@@ -9,7 +9,7 @@ use borrow.Author.Tests.{ltb-true, ltb-false}
 use lib.Dec.{ltb}
 use lib.ListN.{length, take, get_or, set, length-set, length-append}
 use lib.Seq.{sets, length-sets, set_out, take-suc}
-use Rattle.text.specs.Writing.{howManyFit, Puts}
+use Rattle.text.specs.Writing.{how_many_fit, Puts}
 
 -- ---- stores from a place on
 
@@ -20,24 +20,24 @@ sets-out (v ∷ vs) l i h =
     ap (λ (k : List ℕ). sets k (suc i) vs) (set_out l i v h) ∙ sets-out vs l (suc i) (omega arith)
 
 -- a run and then another, from the place behind what fits
-sets-append : (xs ys l : List ℕ) (i : ℕ) → sets (sets l i xs) (i + howManyFit (length xs) i (length l)) ys ≡ sets l i (xs ++ ys)
-sets-append [] ys l i = let e : i + howManyFit 0 i (length l) ≡ i = omega arith in rw e
+sets-append : (xs ys l : List ℕ) (i : ℕ) → sets (sets l i xs) (i + how_many_fit (length xs) i (length l)) ys ≡ sets l i (xs ++ ys)
+sets-append [] ys l i = let e : i + how_many_fit 0 i (length l) ≡ i = omega arith in rw e
 sets-append (x ∷ xs) ys l i = go (ltb i (length l)) refl (sets-append xs ys (set l i x) (suc i))
   where
     go : (b : Bool) → ltb i (length l) ≡ b
-        → sets (sets (set l i x) (suc i) xs) (suc i + howManyFit (length xs) (suc i) (length (set l i x))) ys
+        → sets (sets (set l i x) (suc i) xs) (suc i + how_many_fit (length xs) (suc i) (length (set l i x))) ys
         ≡ sets (set l i x) (suc i) (xs ++ ys)
-        → sets (sets (set l i x) (suc i) xs) (i + howManyFit (suc (length xs)) i (length l)) ys ≡ sets (set l i x) (suc i) (xs ++ ys)
+        → sets (sets (set l i x) (suc i) xs) (i + how_many_fit (suc (length xs)) i (length l)) ys ≡ sets (set l i x) (suc i) (xs ++ ys)
     go true e later =
         let h = ltb-true i (length l) e in
         let same = length-set l i x in
-        let p : i + howManyFit (suc (length xs)) i (length l) ≡ suc i + howManyFit (length xs) (suc i) (length (set l i x)) = omega arith in
+        let p : i + how_many_fit (suc (length xs)) i (length l) ≡ suc i + how_many_fit (length xs) (suc i) (length (set l i x)) = omega arith in
         rw p later
     go false e later =
         let h = ltb-false i (length l) e in
         let same = length-set l i x in
         let kept = length-sets (set l i x) (suc i) xs in
-        sets-out ys (sets (set l i x) (suc i) xs) (i + howManyFit (suc (length xs)) i (length l)) (omega arith)
+        sets-out ys (sets (set l i x) (suc i) xs) (i + how_many_fit (suc (length xs)) i (length l)) (omega arith)
         ∙ sets-out xs (set l i x) (suc i) (omega arith)
         ∙ sym (sets-out (xs ++ ys) (set l i x) (suc i) (omega arith))
 

@@ -2,12 +2,12 @@
 // specs/Writing.antt: of bytes that do not fit the first are written, and the rest of the buffer is unchanged. Which bytes they are is
 // said by tsparql's Strikes.
 ghost use Rattle.std.specs.Prelude.{[], ◌∷◌, ◌*◌, ◌≤◌, ◌<◌, length};
-ghost use Rattle.tsparql.specs.Lists.{concatMap};
+ghost use Rattle.tsparql.specs.Lists.{concat_map};
 ghost use Rattle.tsparql.specs.Check.{refuse};
-ghost use Rattle.tsparql.specs.Strikes.{decimal, trustText, valueText, cellText, row_line, refusedLine, countsLine};
-ghost use Rattle.cells.specs.Words.{wordTrust, wordCell};
-ghost use Rattle.rows.specs.RowWords.{row_in, rowsIn};
-ghost use Rattle.text.specs.Writing.{Puts, cellsText, counted};
+ghost use Rattle.tsparql.specs.Strikes.{decimal, trust_text, value_text, cell_text, row_line, refused_line, counts_line};
+ghost use Rattle.cells.specs.Words.{word_trust, word_cell};
+ghost use Rattle.rows.specs.RowWords.{row_in, rows_in};
+ghost use Rattle.text.specs.Writing.{Puts, cells_text, counted};
 
 use cells::FIRST_TRUST;
 use rows::row_at;
@@ -53,7 +53,7 @@ fn put_decimal(n: u64, out: &mut [u8], at: usize) -> usize
 
 // The trust of a word, in thousandths or `?`.
 fn put_trust(word: u32, out: &mut [u8], at: usize) -> usize
-    ensures { Puts (trustText (wordTrust word)) at out.old out.new result }
+    ensures { Puts (trust_text (word_trust word)) at out.old out.new result }
 {
     if word > 2000 {
         return put_byte(b'?', out, at);
@@ -68,7 +68,7 @@ fn put_trust(word: u32, out: &mut [u8], at: usize) -> usize
 // The value of a cell's word that is set.
 fn put_value(word: u32, out: &mut [u8], at: usize) -> usize
     requires { 0 < word }
-    ensures { Puts (valueText (wordCell word)) at out.old out.new result }
+    ensures { Puts (value_text (word_cell word)) at out.old out.new result }
 {
     if word < FIRST_TRUST {
         return put_decimal(word as u64, out, at);
@@ -79,7 +79,7 @@ fn put_value(word: u32, out: &mut [u8], at: usize) -> usize
 
 // A variable and the value of its cell's word; nothing for a free cell.
 fn put_cell(v: usize, word: u32, out: &mut [u8], at: usize) -> usize
-    ensures { Puts (cellText v (wordCell word)) at out.old out.new result }
+    ensures { Puts (cell_text v (word_cell word)) at out.old out.new result }
 {
     if word == 0 {
         return at;
@@ -94,7 +94,7 @@ fn put_cell(v: usize, word: u32, out: &mut [u8], at: usize) -> usize
 
 // The set variables of a row, rising.
 fn put_cells(row: [u32; 17], out: &mut [u8], at: usize) -> usize
-    ensures { Puts (cellsText (row_in row)) at out.old out.new result }
+    ensures { Puts (cells_text (row_in row)) at out.old out.new result }
 {
     let mut place = at;
     let mut v = 0;
@@ -117,7 +117,7 @@ fn put_row(row: [u32; 17], out: &mut [u8], at: usize) -> usize
 // The lines of the first n rows of a row space.
 pub fn put_rows(space: &[u32], n: usize, out: &mut [u8], at: usize) -> usize
     requires { 17 * n ≤ length space.now }
-    ensures { Puts (concatMap row_line (rowsIn n space.now)) at out.old out.new result }
+    ensures { Puts (concat_map row_line (rows_in n space.now)) at out.old out.new result }
 {
     let mut place = at;
     let mut i = 0;
@@ -130,7 +130,7 @@ pub fn put_rows(space: &[u32], n: usize, out: &mut [u8], at: usize) -> usize
 
 // The line of a refusal.
 pub fn put_refusal(number: u32, place: u64, out: &mut [u8], at: usize) -> usize
-    ensures { Puts (refusedLine (refuse number place)) at out.old out.new result }
+    ensures { Puts (refused_line (refuse number place)) at out.old out.new result }
 {
     let refused = put_text(b"refused ", out, at);
     let number_end = put_decimal(number as u64, out, refused);
@@ -141,7 +141,7 @@ pub fn put_refusal(number: u32, place: u64, out: &mut [u8], at: usize) -> usize
 
 // The line of an answer's counts.
 pub fn put_counts(rows: u32, peak: u32, pairs: u64, out: &mut [u8], at: usize) -> usize
-    ensures { Puts (countsLine (counted rows peak pairs)) at out.old out.new result }
+    ensures { Puts (counts_line (counted rows peak pairs)) at out.old out.new result }
 {
     let before_rows = put_text(b"rows ", out, at);
     let rows_end = put_decimal(rows as u64, out, before_rows);

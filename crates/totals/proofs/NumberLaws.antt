@@ -9,70 +9,70 @@ use borrow.Author.Tests.{eqb-true, eqb-false, ne_eqb}
 use lib.Dec.{eqb}
 use lib.ListN.{length, get_or, set, length-append, length-map, length-set, get_or-append, get_or-eq_default, get_or-map}
 use lib.Seq.{get_or-set_same, get_or-set_other, get_or_at}
-use Rattle.tsparql.specs.Lists.{anyPass, distinctBy}
-use Rattle.tsparql.specs.Values.{Cell, free, sameCell}
-use Rattle.tsparql.specs.Evaluate.{cellWord}
+use Rattle.tsparql.specs.Lists.{any_pass, distinct_by}
+use Rattle.tsparql.specs.Values.{Cell, free, same_cell}
+use Rattle.tsparql.specs.Evaluate.{cell_word}
 use Rattle.tsparql.specs.Totals.{cell_of}
-use Rattle.tsparql.proofs.ListLaws.{get_d_any, every-each, anyPass-none, anyPass-at, map-append}
+use Rattle.tsparql.proofs.ListLaws.{get_d_any, every-each, any_pass-none, any_pass-at, map-append}
 use Rattle.tsparql.proofs.SumLaws.{distinct-old, distinct-new}
-use Rattle.tsparql.proofs.Cardinalities.{sameCell-true, sameCell-refl, cell_same}
-use Rattle.cells.specs.Words.{wordCell}
+use Rattle.tsparql.proofs.Cardinalities.{same_cell-true, same_cell-refl, cell_same}
+use Rattle.cells.specs.Words.{word_cell}
 use Rattle.cells.proofs.WordLaws.{cell-read-written}
-use Rattle.rows.specs.RowWords.{wordsAt, row_at, word_of, rowsIn, RowsHeld}
-use Rattle.rows.proofs.RowWordLaws.{length-rowsIn, rowsIn-suc, getD-rowsIn, cellAt-rowIn, getD-wordsAt, held-row}
+use Rattle.rows.specs.RowWords.{words_at, row_at, word_of, rows_in, RowsHeld}
+use Rattle.rows.proofs.RowWordLaws.{length-rows_in, rows_in-suc, get_d-rows_in, cell_at-row_in, get_d-words_at, held-row}
 use Rattle.rows.proofs.OperatorLaws.{held-at-cell-small}
-use Rattle.totals.specs.Numbers.{cells_in, FoundBefore, numberFrom, NumberOf, Numbered, Numbers}
+use Rattle.totals.specs.Numbers.{cells_in, FoundBefore, number_from, NumberOf, Numbered, Numbers}
 use Rattle.totals.specs.Chains.{Chained}
 
 -- ---- words and cells
 
 -- cells are the same exactly where their words are
-pub same_word : (x y : ℕ) → x ≤ 1050577 → y ≤ 1050577 → sameCell (wordCell x) (wordCell y) ≡ eqb x y
+pub same_word : (x y : ℕ) → x ≤ 1050577 → y ≤ 1050577 → same_cell (word_cell x) (word_cell y) ≡ eqb x y
 same_word x y h k = go (eqb x y) refl
   where
-    differ : (x ≡ y → ⊥) → (b : Bool) → sameCell (wordCell x) (wordCell y) ≡ b → b ≡ false
+    differ : (x ≡ y → ⊥) → (b : Bool) → same_cell (word_cell x) (word_cell y) ≡ b → b ≡ false
     differ d true e =
-        absurd (d (sym (cell-read-written x h) ∙ ap cellWord (sameCell-true (wordCell x) (wordCell y) e) ∙ cell-read-written y k))
+        absurd (d (sym (cell-read-written x h) ∙ ap cell_word (same_cell-true (word_cell x) (word_cell y) e) ∙ cell-read-written y k))
     differ d false e = refl
 
-    go : (b : Bool) → eqb x y ≡ b → sameCell (wordCell x) (wordCell y) ≡ b
-    go true e = rw (eqb-true x y e) (sameCell-refl (wordCell y))
-    go false e = differ (eqb-false x y e) (sameCell (wordCell x) (wordCell y)) refl
+    go : (b : Bool) → eqb x y ≡ b → same_cell (word_cell x) (word_cell y) ≡ b
+    go true e = rw (eqb-true x y e) (same_cell-refl (word_cell y))
+    go false e = differ (eqb-false x y e) (same_cell (word_cell x) (word_cell y)) refl
 
 -- the cell of a row, by its word
-pub cell-word : (u : ℕ) (ws : List ℕ) → u < 16 → (i : ℕ) → cell_of u (row_at i ws) ≡ wordCell (word_of u i ws)
-cell-word u ws inside i = cellAt-rowIn (wordsAt i ws) u inside ∙ ap wordCell (getD-wordsAt i ws u (omega arith))
+pub cell-word : (u : ℕ) (ws : List ℕ) → u < 16 → (i : ℕ) → cell_of u (row_at i ws) ≡ word_cell (word_of u i ws)
+cell-word u ws inside i = cell_at-row_in (words_at i ws) u inside ∙ ap word_cell (get_d-words_at i ws u (omega arith))
 
-cellsIn-more : (u : ℕ) (ws : List ℕ) (i : ℕ) → cells_in u (i + 1) ws ≡ cells_in u i ws ++ (cell_of u (row_at i ws) ∷ [])
-cellsIn-more u ws i = rw (rowsIn-suc i ws) (map-append (cell_of u) (rowsIn i ws) (row_at i ws ∷ []))
+cells_in-more : (u : ℕ) (ws : List ℕ) (i : ℕ) → cells_in u (i + 1) ws ≡ cells_in u i ws ++ (cell_of u (row_at i ws) ∷ [])
+cells_in-more u ws i = rw (rows_in-suc i ws) (map-append (cell_of u) (rows_in i ws) (row_at i ws ∷ []))
 
 -- ---- the different cells, one more
 
 -- what stood there stays at its place
-distinct-stays : (cs : List Cell) (c : Cell) (s : ℕ) (d e : Cell) → s < length (distinctBy sameCell cs)
-    → get_or (distinctBy sameCell cs) s d ≡ e
-    → (s < length (distinctBy sameCell (cs ++ (c ∷ [])))) × (get_or (distinctBy sameCell (cs ++ (c ∷ []))) s d ≡ e)
-distinct-stays cs c s d e h k = go (anyPass (sameCell c) cs) refl
+distinct-stays : (cs : List Cell) (c : Cell) (s : ℕ) (d e : Cell) → s < length (distinct_by same_cell cs)
+    → get_or (distinct_by same_cell cs) s d ≡ e
+    → (s < length (distinct_by same_cell (cs ++ (c ∷ [])))) × (get_or (distinct_by same_cell (cs ++ (c ∷ []))) s d ≡ e)
+distinct-stays cs c s d e h k = go (any_pass (same_cell c) cs) refl
   where
-    go : (b : Bool) → anyPass (sameCell c) cs ≡ b
-        → (s < length (distinctBy sameCell (cs ++ (c ∷ [])))) × (get_or (distinctBy sameCell (cs ++ (c ∷ []))) s d ≡ e)
-    go true f = rw (distinct-old sameCell cell_same cs c f) (h, k)
+    go : (b : Bool) → any_pass (same_cell c) cs ≡ b
+        → (s < length (distinct_by same_cell (cs ++ (c ∷ [])))) × (get_or (distinct_by same_cell (cs ++ (c ∷ []))) s d ≡ e)
+    go true f = rw (distinct-old same_cell cell_same cs c f) (h, k)
     go false f =
-        let ds = distinctBy sameCell cs in
-        rw (distinct-new sameCell cell_same cs c f) (omega (arith, length-append ds (c ∷ [])), get_or-append ds (c ∷ []) d s h ∙ k)
+        let ds = distinct_by same_cell cs in
+        rw (distinct-new same_cell cell_same cs c f) (omega (arith, length-append ds (c ∷ [])), get_or-append ds (c ∷ []) d s h ∙ k)
 
 -- ---- one row more
 
 -- the first i rows are numbered, and k numbers are in use: how it went, and where each number stands now
 pub record Numbering (u : ℕ) (ws numbers : List ℕ) (i k : ℕ) : Type 0 where
-  pub count : k ≡ length (distinctBy sameCell (cells_in u i ws))
+  pub count : k ≡ length (distinct_by same_cell (cells_in u i ws))
   pub few : k ≤ i
   pub each : Numbered u i ws numbers
   pub now : (m : ℕ) → m < i
-      → (get_or numbers m 0 < k) × (get_or (distinctBy sameCell (cells_in u i ws)) (get_or numbers m 0) free ≡ cell_of u (row_at m ws))
+      → (get_or numbers m 0 < k) × (get_or (distinct_by same_cell (cells_in u i ws)) (get_or numbers m 0) free ≡ cell_of u (row_at m ws))
 
 pub numbering-none : (u : ℕ) (ws numbers : List ℕ) → Numbering u ws numbers 0 0
-unfolding rowsIn
+unfolding rows_in
 numbering-none u ws numbers =
     record { count = refl; few = omega arith; each = λ i h. absurd (not-suc-le-zero h); now = λ i h. absurd (not-suc-le-zero h) }
 
@@ -85,13 +85,13 @@ module _ {u : ℕ} {ws numbers : List ℕ} {i k : ℕ} (n : ℕ) (held : RowsHel
   c = cell_of u (row_at i ws)
 
   length-cells : length cs ≡ i
-  length-cells = length-map (rowsIn i ws) (cell_of u) ∙ length-rowsIn i ws
+  length-cells = length-map (rows_in i ws) (cell_of u) ∙ length-rows_in i ws
 
   cell_at : (m : ℕ) → m < i → get_or cs m free ≡ cell_of u (row_at m ws)
   cell_at m l =
       let d = row_at m ws in
       let long : m < length cs = rw length-cells l in
-      get_d_any cs m free (cell_of u d) long ∙ get_or-map (cell_of u) (rowsIn i ws) m d ∙ ap (cell_of u) (getD-rowsIn i ws m d l)
+      get_d_any cs m free (cell_of u d) long ∙ get_or-map (cell_of u) (rows_in i ws) m d ∙ ap (cell_of u) (get_d-rows_in i ws m d l)
 
   small : (m : ℕ) → m < n → word_of u m ws ≤ 1050577
   small m l = held-at-cell-small m ws (held-row n m ws held l) u inside
@@ -108,10 +108,10 @@ module _ {u : ℕ} {ws numbers : List ℕ} {i k : ℕ} (n : ℕ) (held : RowsHel
     next-own = get_or-set_same numbers i s 0 room
 
     -- what is told of row i, with what was told of those before
-    grown : NumberOf cs c s → (k' : ℕ) → k' ≡ length (distinctBy sameCell (cs ++ (c ∷ []))) → k' ≤ i + 1 → k ≤ k' → s < k'
-        → get_or (distinctBy sameCell (cs ++ (c ∷ []))) s free ≡ c → Numbering u ws next (i + 1) k'
+    grown : NumberOf cs c s → (k' : ℕ) → k' ≡ length (distinct_by same_cell (cs ++ (c ∷ []))) → k' ≤ i + 1 → k ≤ k' → s < k'
+        → get_or (distinct_by same_cell (cs ++ (c ∷ []))) s free ≡ c → Numbering u ws next (i + 1) k'
     grown own k' e few more l p =
-        let cells = cellsIn-more u ws i in
+        let cells = cells_in-more u ws i in
         record {
           count = rw cells e;
           few = few;
@@ -124,7 +124,7 @@ module _ {u : ℕ} {ws numbers : List ℕ} {i k : ℕ} (n : ℕ) (held : RowsHel
         told m b false e = let d = eqb-false m i e in let l : m < i = omega arith in rw (next-old m l) (a.each m l)
 
         stands : (m : ℕ) → m < i + 1 → (t : Bool) → eqb m i ≡ t
-            → (get_or next m 0 < k') × (get_or (distinctBy sameCell (cs ++ (c ∷ []))) (get_or next m 0) free ≡ cell_of u (row_at m ws))
+            → (get_or next m 0 < k') × (get_or (distinct_by same_cell (cs ++ (c ∷ []))) (get_or next m 0) free ≡ cell_of u (row_at m ws))
         stands m b true e = rw (eqb-true m i e, next-own) (l, p)
         stands m b false e =
             let d = eqb-false m i e in
@@ -136,14 +136,14 @@ module _ {u : ℕ} {ws numbers : List ℕ} {i k : ℕ} (n : ℕ) (held : RowsHel
   -- the next number, where no row before has the cell
   numbering-new : ((m : ℕ) → m < i → word_of u m ws ≡ word_of u i ws → ⊥) → Numbering u ws (set numbers i k) (i + 1) (k + 1)
   numbering-new none =
-      let other = every-each (λ d. sameCell c d ≡ false) cs free (λ m l. differs m (rw length-cells at l)) in
-      let fresh : anyPass (sameCell c) cs ≡ false = anyPass-none (sameCell c) cs other in
-      let more = distinct-new sameCell cell_same cs c fresh in
-      let long = length-append (distinctBy sameCell cs) (c ∷ []) in
+      let other = every-each (λ d. same_cell c d ≡ false) cs free (λ m l. differs m (rw length-cells at l)) in
+      let fresh : any_pass (same_cell c) cs ≡ false = any_pass-none (same_cell c) cs other in
+      let more = distinct-new same_cell cell_same cs c fresh in
+      let long = length-append (distinct_by same_cell cs) (c ∷ []) in
       grown k
       (record {
         within = omega (arith, a.count);
-        place = get_or-eq_default (distinctBy sameCell cs) c (omega (arith, a.count));
+        place = get_or-eq_default (distinct_by same_cell cs) c (omega (arith, a.count));
         fresh = λ _. fresh;
       })
       (k + 1)
@@ -151,9 +151,9 @@ module _ {u : ℕ} {ws numbers : List ℕ} {i k : ℕ} (n : ℕ) (held : RowsHel
       (omega (arith, a.few))
       (omega arith)
       (omega arith)
-      (rw more (get_or_at (distinctBy sameCell cs) c [] free k (sym a.count)))
+      (rw more (get_or_at (distinct_by same_cell cs) c [] free k (sym a.count)))
     where
-      differs : (m : ℕ) → m < i → sameCell c (get_or cs m free) ≡ false
+      differs : (m : ℕ) → m < i → same_cell c (get_or cs m free) ≡ false
       differs m l =
           rw (cell_at m l, cell-word u ws inside m, cell-word u ws inside i)
           (same_word (word_of u i ws) (word_of u m ws) (small i h) (small m (omega arith))
@@ -162,17 +162,17 @@ module _ {u : ℕ} {ws numbers : List ℕ} {i k : ℕ} (n : ℕ) (held : RowsHel
   -- the number of a row before that has the cell
   numbering-old : (m : ℕ) → m < i → word_of u m ws ≡ word_of u i ws → Numbering u ws (set numbers i (get_or numbers m 0)) (i + 1) k
   numbering-old m l e =
-      let same : cell_of u (row_at m ws) ≡ c = cell-word u ws inside m ∙ ap wordCell e ∙ sym (cell-word u ws inside i) in
+      let same : cell_of u (row_at m ws) ≡ c = cell-word u ws inside m ∙ ap word_cell e ∙ sym (cell-word u ws inside i) in
       let old = a.now m l in
       let s = get_or numbers m 0 in
       let long : m < length cs = rw length-cells l in
-      let here : anyPass (sameCell c) cs ≡ true = anyPass-at (sameCell c) cs m free long (rw (cell_at m l ∙ same) (sameCell-refl c)) in
-      let lt : s < length (distinctBy sameCell cs) = omega (arith, old.0, a.count) in
-      let more = distinct-old sameCell cell_same cs c here in
+      let here : any_pass (same_cell c) cs ≡ true = any_pass-at (same_cell c) cs m free long (rw (cell_at m l ∙ same) (same_cell-refl c)) in
+      let lt : s < length (distinct_by same_cell cs) = omega (arith, old.0, a.count) in
+      let more = distinct-old same_cell cell_same cs c here in
       grown s
       (record {
         within = omega arith;
-        place = get_d_any (distinctBy sameCell cs) s c free lt ∙ old.1 ∙ same;
+        place = get_d_any (distinct_by same_cell cs) s c free lt ∙ old.1 ∙ same;
         fresh = λ z. absurd (omega arith);
       })
       k
@@ -183,7 +183,7 @@ module _ {u : ℕ} {ws numbers : List ℕ} {i k : ℕ} (n : ℕ) (held : RowsHel
       (rw more (old.1 ∙ same))
 
   -- by the row found
-  pub numbering-more : (r s k' : ℕ) → FoundBefore u i (word_of u i ws) ws r → s ≡ numberFrom numbers r k → k' ≡ cond (eqb r 0) (k + 1) k
+  pub numbering-more : (r s k' : ℕ) → FoundBefore u i (word_of u i ws) ws r → s ≡ number_from numbers r k → k' ≡ cond (eqb r 0) (k + 1) k
       → Numbering u ws (set numbers i s) (i + 1) k'
   numbering-more r s k' f e d = go (eqb r 0) refl e d
     where
@@ -212,7 +212,7 @@ numbered-none u n ws numbers heads links c =
 module _ {u n : ℕ} {ws first : List ℕ} {i k : ℕ} {numbers heads links : List ℕ} where
   pub numbered_more : RowsHeld n ws → u < 16 → i < n → n ≤ length first → NumberedTo u n ws first i k numbers heads links
       → (r s k' : ℕ) (heads' links' : List ℕ) → FoundBefore u i (word_of u i ws) ws r → Chained u (i + 1) ws heads' links'
-      → s ≡ numberFrom numbers r k → k' ≡ cond (eqb r 0) (k + 1) k → NumberedTo u n ws first (i + 1) k' (set numbers i s) heads' links'
+      → s ≡ number_from numbers r k → k' ≡ cond (eqb r 0) (k + 1) k → NumberedTo u n ws first (i + 1) k' (set numbers i s) heads' links'
   numbered_more held inside h room a r s k' heads' links' f c e d =
       record {
         within = omega arith;

@@ -1,10 +1,10 @@
 // The groups of the rows of a row space by their cell of a variable, as entries in a lent output. The rows are numbered by their cells
 // first, so that the length is known before anything is written; then each joins the entry of its number.
 ghost use Rattle.std.specs.Prelude.{◌≡◌, ◌+◌, ◌*◌, ◌≤◌, ◌<◌, cond, eqb, length, replicate};
-ghost use Rattle.tsparql.specs.Totals.{totalsWords};
-ghost use Rattle.rows.specs.RowWords.{rowsIn, word_of, RowsHeld};
-ghost use Rattle.totals.specs.Numbers.{FoundBefore, numberFrom, Numbered, Numbers};
-ghost use Rattle.totals.specs.Chains.{bucketCount, mostRows, bucket, LastIn, Linked, Chained};
+ghost use Rattle.tsparql.specs.Totals.{totals_words};
+ghost use Rattle.rows.specs.RowWords.{rows_in, word_of, RowsHeld};
+ghost use Rattle.totals.specs.Numbers.{FoundBefore, number_from, Numbered, Numbers};
+ghost use Rattle.totals.specs.Chains.{bucket_count, most_rows, bucket, LastIn, Linked, Chained};
 ghost use Rattle.totals.specs.Entries.{Addable, Added, entered, Entered};
 
 use rows::lesser_word;
@@ -37,7 +37,7 @@ fn find_before(space: &[u32], i: usize, u: usize, x: u32, last: usize, links: &[
 
 // Puts row i in front of its chain. Answers a row before it that has its word for variable u, plus 1; 0 where none has.
 fn chain_row(space: &[u32], i: usize, u: usize, heads: &mut [u16], links: &mut [u16]) -> usize
-    requires { (17 * i + 17 ≤ length space.now) × (u < 16) × (i < mostRows) × Chained u i space.now heads.old links.old }
+    requires { (17 * i + 17 ≤ length space.now) × (u < 16) × (i < most_rows) × Chained u i space.now heads.old links.old }
     ensures { FoundBefore u i (word_of u i space.now) space.now result
         × Chained u (i + 1) space.now heads.new links.new }
 {
@@ -55,7 +55,7 @@ fn chain_row(space: &[u32], i: usize, u: usize, heads: &mut [u16], links: &mut [
 // The number of the row found, or the next number where none was.
 fn number_of(numbers: &[u16], found: usize, next: usize) -> u16
     requires { (found ≤ length numbers.now) × (next < 65536) }
-    ensures { result ≡ numberFrom numbers.now found next }
+    ensures { result ≡ number_from numbers.now found next }
 {
     if found == 0 {
         return next as u16;
@@ -80,8 +80,8 @@ fn number_rows(
     heads: &mut [u16],
     links: &mut [u16],
 ) -> usize
-    requires { RowsHeld n space.now × (u < 16) × (n ≤ mostRows) × (n ≤ length numbers.old)
-        × (heads.old ≡ replicate bucketCount 0) × (length links.old ≡ mostRows) }
+    requires { RowsHeld n space.now × (u < 16) × (n ≤ most_rows) × (n ≤ length numbers.old)
+        × (heads.old ≡ replicate bucket_count 0) × (length links.old ≡ most_rows) }
     ensures { Numbers u n space.now numbers.new result }
 {
     let mut i = 0;
@@ -120,9 +120,9 @@ fn add_row(out: &mut [u32], k: usize, s: usize, x: u32, t: u32) -> usize
 
 // Writes the entries of the first n rows, whose numbers are given, to the front of the output.
 fn write_entries(space: &[u32], n: usize, u: usize, numbers: &[u16], out: &mut [u32])
-    requires { RowsHeld n space.now × (u < 16) × (n ≤ mostRows) × (n ≤ length numbers.now) × Numbered u n space.now numbers.now
-        × (length (totalsWords u (rowsIn n space.now)) ≤ length out.old) }
-    ensures { out.new ≡ entered u (rowsIn n space.now) out.old }
+    requires { RowsHeld n space.now × (u < 16) × (n ≤ most_rows) × (n ≤ length numbers.now) × Numbered u n space.now numbers.now
+        × (length (totals_words u (rows_in n space.now)) ≤ length out.old) }
+    ensures { out.new ≡ entered u (rows_in n space.now) out.old }
 {
     let mut i = 0;
     let mut k = 0;
@@ -135,8 +135,8 @@ fn write_entries(space: &[u32], n: usize, u: usize, numbers: &[u16], out: &mut [
 
 // The entries of the first n rows by variable u: how many words they are; written to the front of the output where they fit.
 pub fn total_rows(space: &[u32], n: usize, u: usize, out: &mut [u32]) -> usize
-    requires { RowsHeld n space.now × (u < 16) × (n ≤ mostRows) }
-    ensures { Entered u (rowsIn n space.now) out.old out.new result }
+    requires { RowsHeld n space.now × (u < 16) × (n ≤ most_rows) }
+    ensures { Entered u (rows_in n space.now) out.old out.new result }
 {
     let mut numbers = [0u16; 65535];
     let mut heads = [0u16; 65536];

@@ -11,24 +11,24 @@ use native.Mathlib.Omega.{arith}
 use lib.ListN.{length, set, length-append, length-map}
 use lib.Seq.{set-set, set-get_or}
 use borrow.Author.Tests.{eqb-true, eq-eqb}
-use Rattle.tsparql.specs.Lists.{Every, consIf, only_if, keepIf, allPass, sumOver, concatMap}
-use Rattle.tsparql.specs.Values.{Trust, known, unknown, Cell, free, term, trusted, Row, sameTrust, sameCell}
-use Rattle.tsparql.specs.Values.{compatible, merge, withTrust, trustInside}
+use Rattle.tsparql.specs.Lists.{Every, cons_if, only_if, keep_if, all_pass, sum_over, concat_map}
+use Rattle.tsparql.specs.Values.{Trust, known, unknown, Cell, free, term, trusted, Row, same_trust, same_cell}
+use Rattle.tsparql.specs.Values.{compatible, merge, with_trust, trust_inside}
 use Rattle.tsparql.specs.Query.{Pattern, Condition}
-use Rattle.tsparql.specs.Query.{Node, patternSet, join, leftJoin, union, filter, projectTrust, ensureTrust}
-use Rattle.tsparql.specs.Conditions.{Truth, holds, fails, errs, truthOn, trueOn}
-use Rattle.tsparql.specs.Rows.{merges, joinRows, stands, leftJoinRows, rows_of}
-use Rattle.tsparql.specs.Cardinality.{FreeAt, sameCells, sameRow, cardinality, distinct, countIf}
-use Rattle.tsparql.specs.Cardinality.{isFalse, isNotTrue, isNoError, onMerges, inDifference}
-use Rattle.tsparql.specs.Cardinality.{joinCardinality, filterCardinality, differenceCardinality, leftJoinCardinality}
-use Rattle.tsparql.specs.Cardinality.{errorCardinality, unionCardinality, projectCardinality, ensureCardinality}
-use Rattle.tsparql.specs.Cardinality.{nodeCardinality, NoError}
+use Rattle.tsparql.specs.Query.{Node, pattern_set, join, left_join, union, filter, project_trust, ensure_trust}
+use Rattle.tsparql.specs.Conditions.{Truth, holds, fails, errs, truth_on, true_on}
+use Rattle.tsparql.specs.Rows.{merges, join_rows, stands, left_join_rows, rows_of}
+use Rattle.tsparql.specs.Cardinality.{FreeAt, same_cells, same_row, cardinality, distinct, count_if}
+use Rattle.tsparql.specs.Cardinality.{is_false, is_not_true, is_no_error, on_merges, in_difference}
+use Rattle.tsparql.specs.Cardinality.{join_cardinality, filter_cardinality, difference_cardinality, left_join_cardinality}
+use Rattle.tsparql.specs.Cardinality.{error_cardinality, union_cardinality, project_cardinality, ensure_cardinality}
+use Rattle.tsparql.specs.Cardinality.{node_cardinality, NoError}
 use Rattle.tsparql.proofs.ListLaws.{and_left, and_right, and_both, test-eq, every_of, every-weaken}
-use Rattle.tsparql.proofs.ListLaws.{allPass-two, allPass-keepIf}
-use Rattle.tsparql.proofs.ListLaws.{consIf-append, keepIf-append, keepIf-keepIf, keepIf-cong, keepIf-and}
-use Rattle.tsparql.proofs.ListLaws.{keepIf-map, keepIf-concatMap}
-use Rattle.tsparql.proofs.SumLaws.{sumOver-add, sumOver-mul, sumOver-same, countIf-mul, countIf-and}
-use Rattle.tsparql.proofs.SumLaws.{TellsSame, same-of-eq, sum-distinct, length-keepIf-distinct}
+use Rattle.tsparql.proofs.ListLaws.{all_pass-two, all_pass-keep_if}
+use Rattle.tsparql.proofs.ListLaws.{cons_if-append, keep_if-append, keep_if-keep_if, keep_if-cong, keep_if-and}
+use Rattle.tsparql.proofs.ListLaws.{keep_if-map, keep_if-concat_map}
+use Rattle.tsparql.proofs.SumLaws.{sum_over-add, sum_over-mul, sum_over-same, count_if-mul, count_if-and}
+use Rattle.tsparql.proofs.SumLaws.{TellsSame, same-of-eq, sum-distinct, length-keep_if-distinct}
 
 -- ---- tests and lists
 
@@ -37,290 +37,290 @@ or-absorb true q h = sym (h refl)
 or-absorb false q h = refl
 
 -- where every element passes the first test, each passes one of two
-allPass-or : {A : Type 0} (p q : A → Bool) (xs : List A) → allPass p xs ≡ true → allPass (λ x. p x || q x) xs ≡ true
-allPass-or p q [] e = refl
-allPass-or p q (x ∷ xs) e = rw (and_left (p x) (allPass p xs) e) (allPass-or p q xs (and_right (p x) (allPass p xs) e))
+all_pass-or : {A : Type 0} (p q : A → Bool) (xs : List A) → all_pass p xs ≡ true → all_pass (λ x. p x || q x) xs ≡ true
+all_pass-or p q [] e = refl
+all_pass-or p q (x ∷ xs) e = rw (and_left (p x) (all_pass p xs) e) (all_pass-or p q xs (and_right (p x) (all_pass p xs) e))
 
-allPass-map : {A B : Type 0} (p : B → Bool) (f : A → B) (xs : List A) → allPass p (map f xs) ≡ allPass (λ x. p (f x)) xs
-allPass-map p f [] = refl
-allPass-map p f (x ∷ xs) = ap (λ (b : Bool). p (f x) && b) (allPass-map p f xs)
+all_pass-map : {A B : Type 0} (p : B → Bool) (f : A → B) (xs : List A) → all_pass p (map f xs) ≡ all_pass (λ x. p (f x)) xs
+all_pass-map p f [] = refl
+all_pass-map p f (x ∷ xs) = ap (λ (b : Bool). p (f x) && b) (all_pass-map p f xs)
 
 -- each element that passes a test, as a list of its own
-concatMap-single : {A : Type 0} (p : A → Bool) (xs : List A) → concatMap (λ x. consIf (p x) x []) xs ≡ keepIf p xs
-concatMap-single p [] = refl
-concatMap-single p (x ∷ xs) =
-    consIf-append (p x) x [] (concatMap (λ y. consIf (p y) y []) xs) ∙ ap (consIf (p x) x) (concatMap-single p xs)
+concat_map-single : {A : Type 0} (p : A → Bool) (xs : List A) → concat_map (λ x. cons_if (p x) x []) xs ≡ keep_if p xs
+concat_map-single p [] = refl
+concat_map-single p (x ∷ xs) =
+    cons_if-append (p x) x [] (concat_map (λ y. cons_if (p y) y []) xs) ∙ ap (cons_if (p x) x) (concat_map-single p xs)
 
 -- ---- the tests of sameness are equality
 
-pub sameTrust-true : (t u : Trust) → sameTrust t u ≡ true → t ≡ u
-sameTrust-true (known a) (known b) e = ap known (eqb-true a b e)
-sameTrust-true (known a) unknown e = cc
-sameTrust-true unknown (known b) e = cc
-sameTrust-true unknown unknown e = refl
+pub same_trust-true : (t u : Trust) → same_trust t u ≡ true → t ≡ u
+same_trust-true (known a) (known b) e = ap known (eqb-true a b e)
+same_trust-true (known a) unknown e = cc
+same_trust-true unknown (known b) e = cc
+same_trust-true unknown unknown e = refl
 
-pub sameTrust-refl : (t : Trust) → sameTrust t t ≡ true
-sameTrust-refl (known a) = eq-eqb a a refl
-sameTrust-refl unknown = refl
+pub same_trust-refl : (t : Trust) → same_trust t t ≡ true
+same_trust-refl (known a) = eq-eqb a a refl
+same_trust-refl unknown = refl
 
-pub sameCell-true : (c d : Cell) → sameCell c d ≡ true → c ≡ d
-sameCell-true free free e = refl
-sameCell-true free (term b) e = cc
-sameCell-true free (trusted u) e = cc
-sameCell-true (term a) free e = cc
-sameCell-true (term a) (term b) e = ap term (eqb-true a b e)
-sameCell-true (term a) (trusted u) e = cc
-sameCell-true (trusted t) free e = cc
-sameCell-true (trusted t) (term b) e = cc
-sameCell-true (trusted t) (trusted u) e = ap trusted (sameTrust-true t u e)
+pub same_cell-true : (c d : Cell) → same_cell c d ≡ true → c ≡ d
+same_cell-true free free e = refl
+same_cell-true free (term b) e = cc
+same_cell-true free (trusted u) e = cc
+same_cell-true (term a) free e = cc
+same_cell-true (term a) (term b) e = ap term (eqb-true a b e)
+same_cell-true (term a) (trusted u) e = cc
+same_cell-true (trusted t) free e = cc
+same_cell-true (trusted t) (term b) e = cc
+same_cell-true (trusted t) (trusted u) e = ap trusted (same_trust-true t u e)
 
-pub sameCell-refl : (c : Cell) → sameCell c c ≡ true
-sameCell-refl free = refl
-sameCell-refl (term a) = eq-eqb a a refl
-sameCell-refl (trusted t) = sameTrust-refl t
+pub same_cell-refl : (c : Cell) → same_cell c c ≡ true
+same_cell-refl free = refl
+same_cell-refl (term a) = eq-eqb a a refl
+same_cell-refl (trusted t) = same_trust-refl t
 
-pub cell_same : TellsSame sameCell
-cell_same = record { only = sameCell-true; self = sameCell-refl }
+pub cell_same : TellsSame same_cell
+cell_same = record { only = same_cell-true; self = same_cell-refl }
 
-pub sameCells-true : (cs ds : List Cell) → sameCells cs ds ≡ true → cs ≡ ds
-sameCells-true [] [] e = refl
-sameCells-true [] (d ∷ ds) e = cc
-sameCells-true (c ∷ cs) [] e = cc
-sameCells-true (c ∷ cs) (d ∷ ds) e =
-    ap₂ ◌∷◌ (sameCell-true c d (and_left (sameCell c d) (sameCells cs ds) e))
-    (sameCells-true cs ds (and_right (sameCell c d) (sameCells cs ds) e))
+pub same_cells-true : (cs ds : List Cell) → same_cells cs ds ≡ true → cs ≡ ds
+same_cells-true [] [] e = refl
+same_cells-true [] (d ∷ ds) e = cc
+same_cells-true (c ∷ cs) [] e = cc
+same_cells-true (c ∷ cs) (d ∷ ds) e =
+    ap₂ ◌∷◌ (same_cell-true c d (and_left (same_cell c d) (same_cells cs ds) e))
+    (same_cells-true cs ds (and_right (same_cell c d) (same_cells cs ds) e))
 
-pub sameCells-refl : (cs : List Cell) → sameCells cs cs ≡ true
-sameCells-refl [] = refl
-sameCells-refl (c ∷ cs) = and_both (sameCell-refl c) (sameCells-refl cs)
+pub same_cells-refl : (cs : List Cell) → same_cells cs cs ≡ true
+same_cells-refl [] = refl
+same_cells-refl (c ∷ cs) = and_both (same_cell-refl c) (same_cells-refl cs)
 
-pub sameRow-true : (x y : Row) → sameRow x y ≡ true → x ≡ y
-sameRow-true x y e = λ i. record { cells = onCells i; trust = onTrust i }
+pub same_row-true : (x y : Row) → same_row x y ≡ true → x ≡ y
+same_row-true x y e = λ i. record { cells = on_cells i; trust = on_trust i }
   where
-    onCells : x.cells ≡ y.cells
-    onCells = sameCells-true x.cells y.cells (and_left _ (sameTrust x.trust y.trust) e)
+    on_cells : x.cells ≡ y.cells
+    on_cells = same_cells-true x.cells y.cells (and_left _ (same_trust x.trust y.trust) e)
 
-    onTrust : x.trust ≡ y.trust
-    onTrust = sameTrust-true x.trust y.trust (and_right (sameCells x.cells y.cells) _ e)
+    on_trust : x.trust ≡ y.trust
+    on_trust = same_trust-true x.trust y.trust (and_right (same_cells x.cells y.cells) _ e)
 
-pub sameRow-refl : (x : Row) → sameRow x x ≡ true
-sameRow-refl x = and_both (sameCells-refl x.cells) (sameTrust-refl x.trust)
+pub same_row-refl : (x : Row) → same_row x x ≡ true
+same_row-refl x = and_both (same_cells-refl x.cells) (same_trust-refl x.trust)
 
-pub row_same : TellsSame sameRow
-row_same = record { only = sameRow-true; self = sameRow-refl }
+pub row_same : TellsSame same_row
+row_same = record { only = same_row-true; self = same_row-refl }
 
 -- ---- the cardinality of a row in lists put together
 
-length-onlyIf-count : (b : Bool) (xs : List Row) → length (only_if b xs) ≡ countIf b (length xs)
-length-onlyIf-count true xs = refl
-length-onlyIf-count false xs = refl
+length-only_if-count : (b : Bool) (xs : List Row) → length (only_if b xs) ≡ count_if b (length xs)
+length-only_if-count true xs = refl
+length-only_if-count false xs = refl
 
 pub cardinality-append : (xs ys : List Row) (r : Row) → cardinality (xs ++ ys) r ≡ cardinality xs r + cardinality ys r
 cardinality-append xs ys r =
-    ap length (keepIf-append (sameRow r) xs ys) ∙ length-append (keepIf (sameRow r) xs) (keepIf (sameRow r) ys)
+    ap length (keep_if-append (same_row r) xs ys) ∙ length-append (keep_if (same_row r) xs) (keep_if (same_row r) ys)
 
 -- a row stands among the values as often as an element has it for a value
 pub cardinality-map : {A : Type 0} (f : A → Row) (xs : List A) (r : Row)
-    → cardinality (map f xs) r ≡ length (keepIf (λ x. sameRow r (f x)) xs)
-cardinality-map f xs r = ap length (keepIf-map (sameRow r) f xs) ∙ length-map (keepIf (λ x. sameRow r (f x)) xs) f
+    → cardinality (map f xs) r ≡ length (keep_if (λ x. same_row r (f x)) xs)
+cardinality-map f xs r = ap length (keep_if-map (same_row r) f xs) ∙ length-map (keep_if (λ x. same_row r (f x)) xs) f
 
-pub cardinality-concatMap : (f : Row → List Row) (xs : List Row) (r : Row)
-    → cardinality (concatMap f xs) r ≡ sumOver xs (λ x. cardinality (f x) r)
-cardinality-concatMap f [] r = refl
-cardinality-concatMap f (x ∷ xs) r =
-    cardinality-append (f x) (concatMap f xs) r ∙ ap (λ (n : ℕ). cardinality (f x) r + n) (cardinality-concatMap f xs r)
+pub cardinality-concat_map : (f : Row → List Row) (xs : List Row) (r : Row)
+    → cardinality (concat_map f xs) r ≡ sum_over xs (λ x. cardinality (f x) r)
+cardinality-concat_map f [] r = refl
+cardinality-concat_map f (x ∷ xs) r =
+    cardinality-append (f x) (concat_map f xs) r ∙ ap (λ (n : ℕ). cardinality (f x) r + n) (cardinality-concat_map f xs r)
 
 -- what two functions make of each element, counted apart
-pub cardinality-concatMap-append : (f g : Row → List Row) (xs : List Row) (r : Row)
-    → cardinality (concatMap (λ x. f x ++ g x) xs) r ≡ cardinality (concatMap f xs) r + cardinality (concatMap g xs) r
-cardinality-concatMap-append f g xs r =
-    cardinality-concatMap (λ x. f x ++ g x) xs r
-    ∙ sumOver-same xs _ _ (λ x. cardinality-append (f x) (g x) r)
-    ∙ sumOver-add xs (λ x. cardinality (f x) r) (λ x. cardinality (g x) r)
-    ∙ ap₂ ◌+◌ (sym (cardinality-concatMap f xs r)) (sym (cardinality-concatMap g xs r))
+pub cardinality-concat_map-append : (f g : Row → List Row) (xs : List Row) (r : Row)
+    → cardinality (concat_map (λ x. f x ++ g x) xs) r ≡ cardinality (concat_map f xs) r + cardinality (concat_map g xs) r
+cardinality-concat_map-append f g xs r =
+    cardinality-concat_map (λ x. f x ++ g x) xs r
+    ∙ sum_over-same xs _ _ (λ x. cardinality-append (f x) (g x) r)
+    ∙ sum_over-add xs (λ x. cardinality (f x) r) (λ x. cardinality (g x) r)
+    ∙ ap₂ ◌+◌ (sym (cardinality-concat_map f xs r)) (sym (cardinality-concat_map g xs r))
 
 -- a row that passes the test stands among those that do as often as it stands in the list, and one that fails it never
-pub cardinality-keepIf : (p : Row → Bool) (xs : List Row) (r : Row) → cardinality (keepIf p xs) r ≡ countIf (p r) (cardinality xs r)
-cardinality-keepIf p xs r =
-    ap length kept ∙ length-onlyIf-count (p r) (keepIf (sameRow r) xs)
+pub cardinality-keep_if : (p : Row → Bool) (xs : List Row) (r : Row) → cardinality (keep_if p xs) r ≡ count_if (p r) (cardinality xs r)
+cardinality-keep_if p xs r =
+    ap length kept ∙ length-only_if-count (p r) (keep_if (same_row r) xs)
   where
-    at : (x : Row) (b : Bool) → sameRow r x ≡ b → p x && b ≡ p r && b
-    at x true e = ap (λ (y : Row). p y && true) (sym (sameRow-true r x e))
+    at : (x : Row) (b : Bool) → same_row r x ≡ b → p x && b ≡ p r && b
+    at x true e = ap (λ (y : Row). p y && true) (sym (same_row-true r x e))
     at x false e = and_comm (p x) false ∙ and_comm false (p r)
 
-    kept : keepIf (sameRow r) (keepIf p xs) ≡ only_if (p r) (keepIf (sameRow r) xs)
+    kept : keep_if (same_row r) (keep_if p xs) ≡ only_if (p r) (keep_if (same_row r) xs)
     kept =
-        keepIf-keepIf (sameRow r) p xs
-        ∙ keepIf-cong (λ x. p x && sameRow r x) (λ x. p r && sameRow r x) xs (every_of (λ x. at x (sameRow r x) refl) xs)
-        ∙ keepIf-and (p r) (sameRow r) xs
+        keep_if-keep_if (same_row r) p xs
+        ∙ keep_if-cong (λ x. p x && same_row r x) (λ x. p r && same_row r x) xs (every_of (λ x. at x (same_row r x) refl) xs)
+        ∙ keep_if-and (p r) (same_row r) xs
 
 -- ---- a law per operator
 
 -- how often a row stands in the merges of a left row
 pub cardinality-merges : (x : Row) (ys : List Row) (r : Row)
-    → cardinality (merges x ys) r ≡ sumOver (distinct ys) (λ y. countIf (compatible x y && sameRow r (merge x y)) (cardinality ys y))
+    → cardinality (merges x ys) r ≡ sum_over (distinct ys) (λ y. count_if (compatible x y && same_row r (merge x y)) (cardinality ys y))
 cardinality-merges x ys r =
-    cardinality-map (merge x) (keepIf (compatible x) ys) r
-    ∙ ap length (keepIf-keepIf (λ y. sameRow r (merge x y)) (compatible x) ys)
-    ∙ length-keepIf-distinct sameRow row_same (λ y. compatible x y && sameRow r (merge x y)) ys
+    cardinality-map (merge x) (keep_if (compatible x) ys) r
+    ∙ ap length (keep_if-keep_if (λ y. same_row r (merge x y)) (compatible x) ys)
+    ∙ length-keep_if-distinct same_row row_same (λ y. compatible x y && same_row r (merge x y)) ys
 
-pub cardinality-join : (xs ys : List Row) (r : Row) → cardinality (joinRows xs ys) r ≡ joinCardinality xs ys r
+pub cardinality-join : (xs ys : List Row) (r : Row) → cardinality (join_rows xs ys) r ≡ join_cardinality xs ys r
 cardinality-join xs ys r =
-    cardinality-concatMap (λ x. merges x ys) xs r
-    ∙ sum-distinct sameRow row_same xs (λ x. cardinality (merges x ys) r)
-    ∙ sumOver-same (distinct xs) (λ x. cardinality xs x * cardinality (merges x ys) r) products onLeft
+    cardinality-concat_map (λ x. merges x ys) xs r
+    ∙ sum-distinct same_row row_same xs (λ x. cardinality (merges x ys) r)
+    ∙ sum_over-same (distinct xs) (λ x. cardinality xs x * cardinality (merges x ys) r) products on_left
   where
     merged : Row → Row → Bool
-    merged x y = compatible x y && sameRow r (merge x y)
+    merged x y = compatible x y && same_row r (merge x y)
 
     products : Row → ℕ
-    products x = sumOver (distinct ys) (λ y. countIf (merged x y) (cardinality xs x * cardinality ys y))
+    products x = sum_over (distinct ys) (λ y. count_if (merged x y) (cardinality xs x * cardinality ys y))
 
-    onLeft : (x : Row) → cardinality xs x * cardinality (merges x ys) r ≡ products x
-    onLeft x =
+    on_left : (x : Row) → cardinality xs x * cardinality (merges x ys) r ≡ products x
+    on_left x =
         ap (λ (n : ℕ). cardinality xs x * n) (cardinality-merges x ys r)
-        ∙ sumOver-mul (cardinality xs x) (distinct ys) (λ y. countIf (merged x y) (cardinality ys y))
-        ∙ sumOver-same (distinct ys) _ _ (λ y. countIf-mul (merged x y) (cardinality xs x) (cardinality ys y))
+        ∙ sum_over-mul (cardinality xs x) (distinct ys) (λ y. count_if (merged x y) (cardinality ys y))
+        ∙ sum_over-same (distinct ys) _ _ (λ y. count_if-mul (merged x y) (cardinality xs x) (cardinality ys y))
 
 pub cardinality-filter : (c : Condition) (xs : List Row) (r : Row)
-    → cardinality (keepIf (trueOn c) xs) r ≡ filterCardinality c (cardinality xs) r
-cardinality-filter c xs r = cardinality-keepIf (trueOn c) xs r
+    → cardinality (keep_if (true_on c) xs) r ≡ filter_cardinality c (cardinality xs) r
+cardinality-filter c xs r = cardinality-keep_if (true_on c) xs r
 
 -- of the two sets that the difference unites, the second contains the first
-pub inDifference-merges : (keeps : Truth → Bool) (c : Condition) (ys : List Row) (x : Row)
-    → inDifference keeps c ys x ≡ onMerges keeps c ys x
-inDifference-merges keeps c ys x = or-absorb _ _ (allPass-or (λ y. not (compatible x y)) _ ys)
+pub in_difference-merges : (keeps : Truth → Bool) (c : Condition) (ys : List Row) (x : Row)
+    → in_difference keeps c ys x ≡ on_merges keeps c ys x
+in_difference-merges keeps c ys x = or-absorb _ _ (all_pass-or (λ y. not (compatible x y)) _ ys)
 
 -- a left row stands alone just where it is in the difference of SPARQL 1.1
-pub stands-inDifference : (c : Condition) (ys : List Row) (x : Row) → stands c (merges x ys) ≡ inDifference isNotTrue c ys x
-unfolding stands trueOn
-stands-inDifference c ys x =
-    allPass-map (λ m. not (trueOn c m)) (merge x) (keepIf (compatible x) ys)
-    ∙ allPass-keepIf (λ y. not (trueOn c (merge x y))) (compatible x) ys
-    ∙ sym (inDifference-merges isNotTrue c ys x)
+pub stands-in_difference : (c : Condition) (ys : List Row) (x : Row) → stands c (merges x ys) ≡ in_difference is_not_true c ys x
+unfolding stands true_on
+stands-in_difference c ys x =
+    all_pass-map (λ m. not (true_on c m)) (merge x) (keep_if (compatible x) ys)
+    ∙ all_pass-keep_if (λ y. not (true_on c (merge x y))) (compatible x) ys
+    ∙ sym (in_difference-merges is_not_true c ys x)
 
-pub cardinality-leftJoin : (c : Condition) (xs ys : List Row) (r : Row)
-    → cardinality (leftJoinRows c xs ys) r ≡ leftJoinCardinality isNotTrue c xs ys r
-cardinality-leftJoin c xs ys r =
-    cardinality-concatMap-append (λ x. keepIf (trueOn c) (merges x ys)) (λ x. consIf (stands c (merges x ys)) x []) xs r
+pub cardinality-left_join : (c : Condition) (xs ys : List Row) (r : Row)
+    → cardinality (left_join_rows c xs ys) r ≡ left_join_cardinality is_not_true c xs ys r
+cardinality-left_join c xs ys r =
+    cardinality-concat_map-append (λ x. keep_if (true_on c) (merges x ys)) (λ x. cons_if (stands c (merges x ys)) x []) xs r
     ∙ ap₂ ◌+◌ filtered difference
   where
-    filtered : cardinality (concatMap (λ x. keepIf (trueOn c) (merges x ys)) xs) r ≡ filterCardinality c (joinCardinality xs ys) r
+    filtered : cardinality (concat_map (λ x. keep_if (true_on c) (merges x ys)) xs) r ≡ filter_cardinality c (join_cardinality xs ys) r
     filtered =
-        ap (λ (zs : List Row). cardinality zs r) (sym (keepIf-concatMap (trueOn c) (λ x. merges x ys) xs))
-        ∙ cardinality-filter c (joinRows xs ys) r
-        ∙ ap (countIf (trueOn c r)) (cardinality-join xs ys r)
+        ap (λ (zs : List Row). cardinality zs r) (sym (keep_if-concat_map (true_on c) (λ x. merges x ys) xs))
+        ∙ cardinality-filter c (join_rows xs ys) r
+        ∙ ap (count_if (true_on c r)) (cardinality-join xs ys r)
 
-    difference : cardinality (concatMap (λ x. consIf (stands c (merges x ys)) x []) xs) r ≡ differenceCardinality isNotTrue c xs ys r
+    difference : cardinality (concat_map (λ x. cons_if (stands c (merges x ys)) x []) xs) r ≡ difference_cardinality is_not_true c xs ys r
     difference =
-        ap (λ (zs : List Row). cardinality zs r) (concatMap-single (λ x. stands c (merges x ys)) xs)
-        ∙ cardinality-keepIf (λ x. stands c (merges x ys)) xs r
-        ∙ ap (λ (b : Bool). countIf b (cardinality xs r)) (stands-inDifference c ys r)
+        ap (λ (zs : List Row). cardinality zs r) (concat_map-single (λ x. stands c (merges x ys)) xs)
+        ∙ cardinality-keep_if (λ x. stands c (merges x ys)) xs r
+        ∙ ap (λ (b : Bool). count_if b (cardinality xs r)) (stands-in_difference c ys r)
 
-pub cardinality-union : (xs ys : List Row) (r : Row) → cardinality (xs ++ ys) r ≡ unionCardinality xs ys r
+pub cardinality-union : (xs ys : List Row) (r : Row) → cardinality (xs ++ ys) r ≡ union_cardinality xs ys r
 cardinality-union xs ys r = cardinality-append xs ys r
 
-pub cardinality-project : (v : ℕ) (xs : List Row) (r : Row) → cardinality (map (withTrust v) xs) r ≡ projectCardinality v xs r
+pub cardinality-project : (v : ℕ) (xs : List Row) (r : Row) → cardinality (map (with_trust v) xs) r ≡ project_cardinality v xs r
 cardinality-project v xs r =
-    cardinality-map (withTrust v) xs r ∙ length-keepIf-distinct sameRow row_same (λ x. sameRow r (withTrust v x)) xs
+    cardinality-map (with_trust v) xs r ∙ length-keep_if-distinct same_row row_same (λ x. same_row r (with_trust v x)) xs
 
-pub cardinality-ensure : (l u : ℕ) (xs : List Row) (r : Row) → cardinality (keepIf (trustInside l u) xs) r ≡ ensureCardinality l u xs r
-cardinality-ensure l u xs r = cardinality-keepIf (trustInside l u) xs r
+pub cardinality-ensure : (l u : ℕ) (xs : List Row) (r : Row) → cardinality (keep_if (trust_inside l u) xs) r ≡ ensure_cardinality l u xs r
+cardinality-ensure l u xs r = cardinality-keep_if (trust_inside l u) xs r
 
 -- ---- both differences
 
 -- false is what is neither true nor an error
-isFalse-parts : (t : Truth) → isFalse t ≡ isNotTrue t && isNoError t
-isFalse-parts holds = refl
-isFalse-parts fails = refl
-isFalse-parts errs = refl
+is_false-parts : (t : Truth) → is_false t ≡ is_not_true t && is_no_error t
+is_false-parts holds = refl
+is_false-parts fails = refl
+is_false-parts errs = refl
 
 -- the published difference keeps those of the rows that SPARQL 1.1 keeps on whose merges the condition does not err
-pub inDifference-parts : (c : Condition) (ys : List Row) (x : Row)
-    → inDifference isFalse c ys x ≡ inDifference isNotTrue c ys x && onMerges isNoError c ys x
-inDifference-parts c ys x =
-    inDifference-merges isFalse c ys x
-    ∙ allPass-two (passes isFalse) (passes isNotTrue) (passes isNoError) (inDifference isNotTrue c ys x) ys
-    (every_of (λ y. at (compatible x y) (truthOn (merge x y).cells c)) ys) (sym (inDifference-merges isNotTrue c ys x))
+pub in_difference-parts : (c : Condition) (ys : List Row) (x : Row)
+    → in_difference is_false c ys x ≡ in_difference is_not_true c ys x && on_merges is_no_error c ys x
+in_difference-parts c ys x =
+    in_difference-merges is_false c ys x
+    ∙ all_pass-two (passes is_false) (passes is_not_true) (passes is_no_error) (in_difference is_not_true c ys x) ys
+    (every_of (λ y. at (compatible x y) (truth_on (merge x y).cells c)) ys) (sym (in_difference-merges is_not_true c ys x))
   where
     passes : (Truth → Bool) → Row → Bool
-    passes p y = not (compatible x y) || p (truthOn (merge x y).cells c)
+    passes p y = not (compatible x y) || p (truth_on (merge x y).cells c)
 
-    at : (b : Bool) (t : Truth) → not b || isFalse t ≡ (not b || isNotTrue t) && (not b || isNoError t)
-    at true t = isFalse-parts t
+    at : (b : Bool) (t : Truth) → not b || is_false t ≡ (not b || is_not_true t) && (not b || is_no_error t)
+    at true t = is_false-parts t
     at false t = refl
 
 -- what the rows of a left join have beyond the published cardinality: the left rows that stand by an error
 pub cardinality-errors : (c : Condition) (xs ys : List Row) (r : Row)
-    → cardinality (leftJoinRows c xs ys) r ≡ leftJoinCardinality isFalse c xs ys r + errorCardinality c xs ys r
-cardinality-errors c xs ys r = cardinality-leftJoin c xs ys r ∙ omega (arith, split)
+    → cardinality (left_join_rows c xs ys) r ≡ left_join_cardinality is_false c xs ys r + error_cardinality c xs ys r
+cardinality-errors c xs ys r = cardinality-left_join c xs ys r ∙ omega (arith, split)
   where
     left : Bool → ℕ
-    left b = countIf b (cardinality xs r)
+    left b = count_if b (cardinality xs r)
 
-    split : differenceCardinality isNotTrue c xs ys r ≡ differenceCardinality isFalse c xs ys r + errorCardinality c xs ys r
+    split : difference_cardinality is_not_true c xs ys r ≡ difference_cardinality is_false c xs ys r + error_cardinality c xs ys r
     split =
-        countIf-and (inDifference isNotTrue c ys r) (onMerges isNoError c ys r) (cardinality xs r)
-        ∙ ap₂ (λ (b d : Bool). left b + left (d && not (onMerges isNoError c ys r))) (sym (inDifference-parts c ys r))
-        (inDifference-merges isNotTrue c ys r)
+        count_if-and (in_difference is_not_true c ys r) (on_merges is_no_error c ys r) (cardinality xs r)
+        ∙ ap₂ (λ (b d : Bool). left b + left (d && not (on_merges is_no_error c ys r))) (sym (in_difference-parts c ys r))
+        (in_difference-merges is_not_true c ys r)
 
 -- ---- nodes
 
 -- how often a row stands among the rows of a node, with how often it stands in a pattern set as given
 pub cardinality-node : (sets : List Pattern → Row → ℕ) (base : List Pattern → List Row) (q : Node) (r : Row)
-    → ((ps : List Pattern) → q ≡ patternSet ps → cardinality (base ps) r ≡ sets ps r)
-    → cardinality (rows_of base q) r ≡ nodeCardinality isNotTrue sets base q r
-unfolding rows_of nodeCardinality
-cardinality-node sets base (patternSet ps) r h = h ps refl
+    → ((ps : List Pattern) → q ≡ pattern_set ps → cardinality (base ps) r ≡ sets ps r)
+    → cardinality (rows_of base q) r ≡ node_cardinality is_not_true sets base q r
+unfolding rows_of node_cardinality
+cardinality-node sets base (pattern_set ps) r h = h ps refl
 cardinality-node sets base (join x y) r h = cardinality-join (rows_of base x) (rows_of base y) r
-cardinality-node sets base (leftJoin c x y) r h = cardinality-leftJoin c (rows_of base x) (rows_of base y) r
+cardinality-node sets base (left_join c x y) r h = cardinality-left_join c (rows_of base x) (rows_of base y) r
 cardinality-node sets base (union x y) r h = cardinality-union (rows_of base x) (rows_of base y) r
 cardinality-node sets base (filter c x) r h = cardinality-filter c (rows_of base x) r
-cardinality-node sets base (projectTrust v x) r h = cardinality-project v (rows_of base x) r
-cardinality-node sets base (ensureTrust l u x) r h = cardinality-ensure l u (rows_of base x) r
+cardinality-node sets base (project_trust v x) r h = cardinality-project v (rows_of base x) r
+cardinality-node sets base (ensure_trust l u x) r h = cardinality-ensure l u (rows_of base x) r
 
 -- of every node and row, whatever the rows of pattern sets are: the cardinality of its operator with the difference of SPARQL 1.1
 pub cardinality-sparql11 : (base : List Pattern → List Row) (q : Node) (r : Row)
-    → cardinality (rows_of base q) r ≡ nodeCardinality isNotTrue (λ ps. cardinality (base ps)) base q r
+    → cardinality (rows_of base q) r ≡ node_cardinality is_not_true (λ ps. cardinality (base ps)) base q r
 cardinality-sparql11 base q r = cardinality-node (λ ps. cardinality (base ps)) base q r (λ ps e. refl)
 
 -- a row without an error has one cardinality by both differences
-pub cardinality-noError : (sets : List Pattern → Row → ℕ) (base : List Pattern → List Row) (q : Node) (r : Row) → NoError base q r
-    → nodeCardinality isNotTrue sets base q r ≡ nodeCardinality isFalse sets base q r
-unfolding nodeCardinality
-cardinality-noError sets base (patternSet ps) r e = refl
-cardinality-noError sets base (join x y) r e = refl
-cardinality-noError sets base (leftJoin c x y) r e =
-    let kept : Bool = inDifference isNotTrue c (rows_of base y) r in
-    let same : inDifference isFalse c (rows_of base y) r ≡ kept =
-    inDifference-parts c (rows_of base y) r ∙ ap (λ (b : Bool). kept && b) e ∙ and-true kept in
-    ap (λ (b : Bool). filterCardinality c (joinCardinality (rows_of base x) (rows_of base y)) r + countIf b (cardinality (rows_of base x) r))
+pub cardinality-no_error : (sets : List Pattern → Row → ℕ) (base : List Pattern → List Row) (q : Node) (r : Row) → NoError base q r
+    → node_cardinality is_not_true sets base q r ≡ node_cardinality is_false sets base q r
+unfolding node_cardinality
+cardinality-no_error sets base (pattern_set ps) r e = refl
+cardinality-no_error sets base (join x y) r e = refl
+cardinality-no_error sets base (left_join c x y) r e =
+    let kept : Bool = in_difference is_not_true c (rows_of base y) r in
+    let same : in_difference is_false c (rows_of base y) r ≡ kept =
+    in_difference-parts c (rows_of base y) r ∙ ap (λ (b : Bool). kept && b) e ∙ and-true kept in
+    ap (λ (b : Bool). filter_cardinality c (join_cardinality (rows_of base x) (rows_of base y)) r + count_if b (cardinality (rows_of base x) r))
     (sym same)
-cardinality-noError sets base (union x y) r e = refl
-cardinality-noError sets base (filter c x) r e = refl
-cardinality-noError sets base (projectTrust v x) r e = refl
-cardinality-noError sets base (ensureTrust l u x) r e = refl
+cardinality-no_error sets base (union x y) r e = refl
+cardinality-no_error sets base (filter c x) r e = refl
+cardinality-no_error sets base (project_trust v x) r e = refl
+cardinality-no_error sets base (ensure_trust l u x) r e = refl
 
 -- ---- Definition 3.1 as it is published
 
 -- a row is known from the row with its trust at v, where v was free
-pub withTrust-injective : (v : ℕ) (x y : Row) → FreeAt v x → FreeAt v y → withTrust v x ≡ withTrust v y → x ≡ y
-withTrust-injective v x y f g e = λ i. record { cells = onCells i; trust = (e i).trust }
+pub with_trust-injective : (v : ℕ) (x y : Row) → FreeAt v x → FreeAt v y → with_trust v x ≡ with_trust v y → x ≡ y
+with_trust-injective v x y f g e = λ i. record { cells = on_cells i; trust = (e i).trust }
   where
-    back : (z : Row) → FreeAt v z → z.cells ≡ set (withTrust v z).cells v free
+    back : (z : Row) → FreeAt v z → z.cells ≡ set (with_trust v z).cells v free
     back z h = sym (set-set z.cells v _ free ∙ ap (set z.cells v) (sym h) ∙ set-get_or z.cells v free)
 
-    onCells : x.cells ≡ y.cells
-    onCells = back x f ∙ ap (λ (z : Row). set z.cells v free) e ∙ sym (back y g)
+    on_cells : x.cells ≡ y.cells
+    on_cells = back x f ∙ ap (λ (z : Row). set z.cells v free) e ∙ sym (back y g)
 
 -- where the variable is free in the row and in every row of the operand, project trust keeps the cardinality
 pub cardinality-project-free : (v : ℕ) (xs : List Row) (r : Row) → Every (FreeAt v) xs → FreeAt v r
-    → cardinality (map (withTrust v) xs) (withTrust v r) ≡ cardinality xs r
+    → cardinality (map (with_trust v) xs) (with_trust v r) ≡ cardinality xs r
 cardinality-project-free v xs r e f =
-    cardinality-map (withTrust v) xs (withTrust v r) ∙ ap length (keepIf-cong _ (sameRow r) xs (every-weaken at xs e))
+    cardinality-map (with_trust v) xs (with_trust v r) ∙ ap length (keep_if-cong _ (same_row r) xs (every-weaken at xs e))
   where
-    at : (x : Row) → FreeAt v x → sameRow (withTrust v r) (withTrust v x) ≡ sameRow r x
+    at : (x : Row) → FreeAt v x → same_row (with_trust v r) (with_trust v x) ≡ same_row r x
     at x g =
-        test-eq _ (sameRow r x)
-        (λ h. same-of-eq sameRow row_same r x (withTrust-injective v r x f g (sameRow-true (withTrust v r) (withTrust v x) h)))
-        (λ h. same-of-eq sameRow row_same (withTrust v r) (withTrust v x) (ap (withTrust v) (sameRow-true r x h)))
+        test-eq _ (same_row r x)
+        (λ h. same-of-eq same_row row_same r x (with_trust-injective v r x f g (same_row-true (with_trust v r) (with_trust v x) h)))
+        (λ h. same-of-eq same_row row_same (with_trust v r) (with_trust v x) (ap (with_trust v) (same_row-true r x h)))

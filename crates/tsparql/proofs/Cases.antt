@@ -11,31 +11,31 @@ use Prim.Native.Char.{code}
 use Prim.Native.String.{String, [] as ε, ◌∷◌ as ◌then◌}
 use lib.Dec.{eqb, ltb}
 use lib.ListN.{length, replicate, length-replicate}
-use Rattle.tsparql.specs.Lists.{consIf, concatMap, up_from}
-use Rattle.tsparql.specs.Values.{known, Cell, free, term, Row, compatible, mergeCells}
-use Rattle.tsparql.specs.Query.{Slot, aTerm, aVariable, Pattern}
-use Rattle.tsparql.specs.Conditions.{truthOn, trueOn}
-use Rattle.tsparql.specs.Rows.{stands, rows_of, space_of, pairsOf}
-use Rattle.tsparql.specs.Table.{Fact, bigEndian, recordAt, fact_of, below, wholeTable, factAt, factsIn}
-use Rattle.tsparql.specs.PatternSets.{bindPattern, matches, choices, least, mean, Aggregation, byLeast, byMean, aggregate, setRows}
-use Rattle.tsparql.specs.PatternSets.{rowsOver, spaceOver, pairsOver}
-use Rattle.tsparql.specs.Tuples.{tuples, tupleRows}
-use Rattle.tsparql.specs.Ceiling.{ceilingOf}
+use Rattle.tsparql.specs.Lists.{cons_if, concat_map, up_from}
+use Rattle.tsparql.specs.Values.{known, Cell, free, term, Row, compatible, merge_cells}
+use Rattle.tsparql.specs.Query.{Slot, a_term, a_variable, Pattern}
+use Rattle.tsparql.specs.Conditions.{truth_on, true_on}
+use Rattle.tsparql.specs.Rows.{stands, rows_of, space_of, pairs_of}
+use Rattle.tsparql.specs.Table.{Fact, big_endian, record_at, fact_of, below, whole_table, fact_at, facts_in}
+use Rattle.tsparql.specs.PatternSets.{bind_pattern, matches, choices, least, mean, Aggregation, by_least, by_mean, aggregate, set_rows}
+use Rattle.tsparql.specs.PatternSets.{rows_over, space_over, pairs_over}
+use Rattle.tsparql.specs.Tuples.{tuples, tuple_rows}
+use Rattle.tsparql.specs.Ceiling.{ceiling_of}
 use Rattle.tsparql.specs.Push.{push}
-use Rattle.tsparql.specs.Writing.{patternBytes, conditionBytes, nodeBytes}
-use Rattle.tsparql.specs.Reading.{readPattern, readPatterns, conditionStep, readConditionIn, readCondition}
-use Rattle.tsparql.specs.Reading.{nodeStep, readNodeIn, read_node, readQuery, queryNode}
-use Rattle.tsparql.specs.Check.{refuse, noRefusal, passes, recordRefusal, recordsRefusal, tableRefusal}
-use Rattle.tsparql.specs.Check.{trustProjections, patternVariables, variablesRefusal, queryRefusal, check}
-use Rattle.tsparql.specs.Evaluate.{rowLength, trustWord, rowWords, capacity}
-use Rattle.tsparql.specs.Evaluate.{Evaluated, refusedWith, answeredWith, answer, evaluateOver, evaluateUnless}
-use Rattle.tsparql.specs.Rewrite.{rewriting, rewriteRefusal, rewrite}
-use Rattle.tsparql.specs.Calls.{evaluateUntallied, ceilingOver, ceilingCall, Tally, tallied}
-use Rattle.tsparql.specs.Totals.{leastTrust, groups, totalsWords, totalsOver, totalsUntallied}
-use Rattle.tsparql.specs.Runs.{Request, TalliedCall, anEvaluation, aTotals, zeroTally, run}
-use Rattle.tsparql.specs.Strikes.{ascii, digits, decimal, row_line, refusedLine, countsLine, report}
-use Rattle.tsparql.specs.Strikes.{factsLimit, programRows, strikes}
-use Rattle.tsparql.specs.Cardinality.{setCardinality, nodeCardinality, publishedCardinality, sparql11Cardinality}
+use Rattle.tsparql.specs.Writing.{pattern_bytes, condition_bytes, node_bytes}
+use Rattle.tsparql.specs.Reading.{read_pattern, read_patterns, condition_step, read_condition_in, read_condition}
+use Rattle.tsparql.specs.Reading.{node_step, read_node_in, read_node, read_query, query_node}
+use Rattle.tsparql.specs.Check.{refuse, no_refusal, passes, record_refusal, records_refusal, table_refusal}
+use Rattle.tsparql.specs.Check.{trust_projections, pattern_variables, variables_refusal, query_refusal, check}
+use Rattle.tsparql.specs.Evaluate.{row_length, trust_word, row_words, capacity}
+use Rattle.tsparql.specs.Evaluate.{Evaluated, refused_with, answered_with, answer, evaluate_over, evaluate_unless}
+use Rattle.tsparql.specs.Rewrite.{rewriting, rewrite_refusal, rewrite}
+use Rattle.tsparql.specs.Calls.{evaluate_untallied, ceiling_over, ceiling_call, Tally, tallied}
+use Rattle.tsparql.specs.Totals.{least_trust, groups, totals_words, totals_over, totals_untallied}
+use Rattle.tsparql.specs.Runs.{Request, TalliedCall, an_evaluation, a_totals, zero_tally, run}
+use Rattle.tsparql.specs.Strikes.{ascii, digits, decimal, row_line, refused_line, counts_line, report}
+use Rattle.tsparql.specs.Strikes.{facts_limit, program_rows, strikes}
+use Rattle.tsparql.specs.Cardinality.{set_cardinality, node_cardinality, published_cardinality, sparql11_cardinality}
 
 -- ---- hexadecimal
 
@@ -45,16 +45,16 @@ nibble c = cond (ltb c 58) (c - 48) (c - 55)
 
 nibbles : String → List ℕ
 nibbles ε = []
-nibbles (c then s) = consIf (not (eqb (code c) 32)) (nibble (code c)) (nibbles s)
+nibbles (c then s) = cons_if (not (eqb (code c) 32)) (nibble (code c)) (nibbles s)
 
-inPairs : List ℕ → List ℕ
-inPairs [] = []
-inPairs (a ∷ []) = []
-inPairs (a ∷ b ∷ ns) = (16 * a + b) ∷ inPairs ns
+in_pairs : List ℕ → List ℕ
+in_pairs [] = []
+in_pairs (a ∷ []) = []
+in_pairs (a ∷ b ∷ ns) = (16 * a + b) ∷ in_pairs ns
 
 -- bytes from digits in capitals; spaces are passed over
 hex : String → List ℕ
-hex s = inPairs (nibbles s)
+hex s = in_pairs (nibbles s)
 
 -- ---- stores and queries
 
@@ -65,12 +65,12 @@ W =
     ++ (hex "00 00 10 00 0A 00 00 CC B0" ++ (hex "00 00 10 00 14 00 01 5F 08" ++ hex "00 00 20 00 14 00 01 50 00"))
 
 -- only (1,10,12) 200 and (1,20,21) 800
-twoRecords : List ℕ
-twoRecords = hex "00 00 10 00 0A 00 00 CC B0" ++ hex "00 00 10 00 14 00 01 5F 08"
+two_records : List ℕ
+two_records = hex "00 00 10 00 0A 00 00 CC B0" ++ hex "00 00 10 00 14 00 01 5F 08"
 
 -- (1,10,11) 400 and (1,20,21) 900
-lowAndHigh : List ℕ
-lowAndHigh = hex "00 00 10 00 0A 00 00 BD 78" ++ hex "00 00 10 00 14 00 01 5F 6C"
+low_and_high : List ℕ
+low_and_high = hex "00 00 10 00 0A 00 00 BD 78" ++ hex "00 00 10 00 14 00 01 5F 6C"
 
 -- (1,10,11) -5 and (1,20,21) -1000
 negative : List ℕ
@@ -95,19 +95,19 @@ none : List ℕ
 none = hex "01 10 00 00 00 00 63 10 00 01"
 
 fifteen : List ℕ
-fifteen = hex "0F" ++ concatMap (λ n. hex "10 00 00 00 00 0A 10 00 01") (up_from 0 15)
+fifteen = hex "0F" ++ concat_map (λ n. hex "10 00 00 00 00 0A 10 00 01") (up_from 0 15)
 
 -- five patterns without a term, no two of which share a variable
 five : List ℕ
-five = hex "05" ++ concatMap (λ n. hex "10 00" ++ ((3 * n) ∷ hex "10 00" ++ ((3 * n + 1) ∷ hex "10 00" ++ ((3 * n + 2) ∷ [])))) (up_from 0 5)
+five = hex "05" ++ concat_map (λ n. hex "10 00" ++ ((3 * n) ∷ hex "10 00" ++ ((3 * n + 1) ∷ hex "10 00" ++ ((3 * n + 2) ∷ [])))) (up_from 0 5)
 
 -- k unions of sets of fifteen patterns, behind other nodes
 unions : List ℕ → ℕ → List ℕ
-unions front k = front ++ (replicate k 0x30 ++ concatMap (λ n. fifteen) (up_from 0 (suc k)))
+unions front k = front ++ (replicate k 0x30 ++ concat_map (λ n. fifteen) (up_from 0 (suc k)))
 
 -- 1,024 bytes: a filter, 16 bounds, 6 unions
 longest : List ℕ
-longest = unions (hex "40 70" ++ concatMap (λ n. hex "60 00 07 D0") (up_from 0 16)) 6
+longest = unions (hex "40 70" ++ concat_map (λ n. hex "60 00 07 D0") (up_from 0 16)) 6
 
 -- the bound 500 to 1000 on a query
 E : List ℕ → List ℕ
@@ -117,11 +117,11 @@ E q = hex "60 5D C7 D0" ++ q
 any_known : List ℕ → List ℕ
 any_known q = hex "60 00 07 D0" ++ q
 
-atMost500 : List ℕ → List ℕ
-atMost500 q = hex "60 00 05 DC" ++ q
+at_most500 : List ℕ → List ℕ
+at_most500 q = hex "60 00 05 DC" ++ q
 
-joinAB : List ℕ
-joinAB = hex "10" ++ (A ++ B)
+join_aB : List ℕ
+join_aB = hex "10" ++ (A ++ B)
 
 -- the patterns ?0 10 11, ?0 10 12 and ?0 10 ?1
 p11 : List ℕ
@@ -134,12 +134,12 @@ p_any : List ℕ
 p_any = hex "10 00 00 00 00 0A 10 00 01"
 
 -- the join of {?0 10 11, ?0 10 12} and A
-joinTwo : List ℕ
-joinTwo = hex "10 02" ++ (p11 ++ (p12 ++ A))
+join_two : List ℕ
+join_two = hex "10 02" ++ (p11 ++ (p12 ++ A))
 
 -- the left join of A and B under a condition
-leftAB : List ℕ → List ℕ
-leftAB c = hex "20" ++ (c ++ (A ++ B))
+left_aB : List ℕ → List ℕ
+left_aB c = hex "20" ++ (c ++ (A ++ B))
 
 -- ---- what the definitions give
 
@@ -154,16 +154,16 @@ worked-is [] = refl
 worked-is (b ∷ s) = ap (λ (r : List ℕ). b ∷ r) (worked-is s)
 
 -- an evaluation in so many words, all 7 at first: number, place, rows, peak, pairs, and the row space at the end
-evaluatedBy : Aggregation → List ℕ → List ℕ → ℕ → List ℕ
-evaluatedBy g t q words = let e = evaluateUntallied t q g (replicate words 7) in
-    e.refusal.number ∷ e.refusal.place ∷ e.rows ∷ e.peak ∷ e.pairs ∷ e.rowSpace
+evaluated_by : Aggregation → List ℕ → List ℕ → ℕ → List ℕ
+evaluated_by g t q words = let e = evaluate_untallied t q g (replicate words 7) in
+    e.refusal.number ∷ e.refusal.place ∷ e.rows ∷ e.peak ∷ e.pairs ∷ e.row_space
 
 evaluated : List ℕ → List ℕ → ℕ → List ℕ
-evaluated t q words = evaluatedBy byLeast t q words
+evaluated t q words = evaluated_by by_least t q words
 
 -- the lines of the rows of a query by the mean
-meanLines : List ℕ → List ℕ → List ℕ
-meanLines t q = concatMap row_line (rowsOver mean (factsIn (wholeTable t) t) (queryNode q))
+mean_lines : List ℕ → List ℕ → List ℕ
+mean_lines t q = concat_map row_line (rows_over mean (facts_in (whole_table t) t) (query_node q))
 
 -- number and place of the check
 checked : List ℕ → List ℕ → List ℕ
@@ -171,7 +171,7 @@ checked t q = (check t q).number ∷ (check t q).place ∷ []
 
 -- number, place and ceiling
 ceilings : List ℕ → List ℕ → List ℕ
-ceilings t q = let c = ceilingCall t q in c.refusal.number ∷ c.refusal.place ∷ c.ceiling ∷ []
+ceilings t q = let c = ceiling_call t q in c.refusal.number ∷ c.refusal.place ∷ c.ceiling ∷ []
 
 -- a rewriting into so many bytes, all 7 at first: number, place, length, and the output at the end
 rewritten : List ℕ → ℕ → List ℕ
@@ -179,30 +179,30 @@ rewritten q bytes = let r = rewrite q (replicate bytes 7) in r.refusal.number �
 
 -- subject, predicate, object and trust of a record
 fields : List ℕ → List ℕ
-fields t = let f = fact_of (recordAt t 0) in f.subject ∷ f.predicate ∷ f.object ∷ trustWord f.trust ∷ []
+fields t = let f = fact_of (record_at t 0) in f.subject ∷ f.predicate ∷ f.object ∷ trust_word f.trust ∷ []
 
 -- totals over W by a variable in so many words and into so many, all 7 at first: number, place, length, and the output at the end
-totalledBy : Aggregation → List ℕ → ℕ → ℕ → ℕ → List ℕ
-totalledBy g q u words out = let x = totalsUntallied W q g u (replicate words 7) (replicate out 7) in
+totalled_by : Aggregation → List ℕ → ℕ → ℕ → ℕ → List ℕ
+totalled_by g q u words out = let x = totals_untallied W q g u (replicate words 7) (replicate out 7) in
     x.refusal.number ∷ x.refusal.place ∷ x.size ∷ x.output
 
 totalled : List ℕ → ℕ → ℕ → ℕ → List ℕ
-totalled q u words out = totalledBy byLeast q u words out
+totalled q u words out = totalled_by by_least q u words out
 
 -- their row space at the end
-totalledSpace : List ℕ → ℕ → ℕ → ℕ → List ℕ
-totalledSpace q u words out = (totalsUntallied W q byLeast u (replicate words 7) (replicate out 7)).rowSpace
+totalled_space : List ℕ → ℕ → ℕ → ℕ → List ℕ
+totalled_space q u words out = (totals_untallied W q by_least u (replicate words 7) (replicate out 7)).row_space
 
 -- a query over W in the space of one row
 request : List ℕ → Request
-request q = record { table = W; query = q; aggregation = byLeast; rowSpace = replicate 17 7 }
+request q = record { table = W; query = q; aggregation = by_least; row_space = replicate 17 7 }
 
 -- an evaluation of it; totals by ?0 into so many words
 evaluation : List ℕ → TalliedCall
-evaluation q = anEvaluation (request q)
+evaluation q = an_evaluation (request q)
 
-totalsInto : ℕ → List ℕ → TalliedCall
-totalsInto out q = aTotals (request q) 0 (replicate out 7)
+totals_into : ℕ → List ℕ → TalliedCall
+totals_into out q = a_totals (request q) 0 (replicate out 7)
 
 -- answered and refused after calls, from a tally
 tallies : Tally → List TalliedCall → List ℕ
@@ -213,16 +213,16 @@ triple : Slot → Slot → Slot → Pattern
 triple s p o = record { subject = s; predicate = p; object = o }
 
 -- the lines of the rows of a pattern set over W, by tuples of records
-tupleLines : List Pattern → List ℕ
-tupleLines ps = concatMap row_line (tupleRows least (factsIn (wholeTable W) W) ps)
+tuple_lines : List Pattern → List ℕ
+tuple_lines ps = concat_map row_line (tuple_rows least (facts_in (whole_table W) W) ps)
 
 -- the patterns of A and B in one set
-setAB : List Pattern
-setAB = triple (aVariable 0) (aTerm 20) (aTerm 21) ∷ triple (aVariable 0) (aTerm 10) (aVariable 1) ∷ []
+set_aB : List Pattern
+set_aB = triple (a_variable 0) (a_term 20) (a_term 21) ∷ triple (a_variable 0) (a_term 10) (a_variable 1) ∷ []
 
 -- two patterns that become one record
-setTwice : List Pattern
-setTwice = triple (aVariable 0) (aTerm 20) (aTerm 21) ∷ triple (aVariable 0) (aTerm 20) (aVariable 1) ∷ []
+set_twice : List Pattern
+set_twice = triple (a_variable 0) (a_term 20) (a_term 21) ∷ triple (a_variable 0) (a_term 20) (a_variable 1) ∷ []
 
 -- a row by its first cells, the others being free, and its trust plus 1000
 row_of : List Cell → ℕ → Row
@@ -230,20 +230,20 @@ row_of cs t = record { cells = cs ++ replicate (16 - length cs) free; trust = kn
 
 -- how often it stands among the solutions of a set over W
 solutions : List Pattern → List Cell → ℕ → List ℕ
-solutions ps cs t = setCardinality least (factsIn (wholeTable W) W) ps (row_of cs t) ∷ []
+solutions ps cs t = set_cardinality least (facts_in (whole_table W) W) ps (row_of cs t) ∷ []
 
 -- how often it is counted for a query over W, as published and with the difference of SPARQL 1.1
 counts : List ℕ → List Cell → ℕ → List ℕ
 counts q cs t =
-    let fs = factsIn (wholeTable W) W in
-    publishedCardinality least fs (queryNode q) (row_of cs t) ∷ sparql11Cardinality least fs (queryNode q) (row_of cs t) ∷ []
+    let fs = facts_in (whole_table W) W in
+    published_cardinality least fs (query_node q) (row_of cs t) ∷ sparql11_cardinality least fs (query_node q) (row_of cs t) ∷ []
 
 -- no row of A, and both, under a filter
 no_rows : List ℕ
 no_rows = ascii "rows 0 peak 2 pairs 0\n"
 
-bothRows : List ℕ
-bothRows = ascii "rows 2 peak 2 pairs 0\n800 ?0=1\n? ?0=2\n"
+both_rows : List ℕ
+both_rows = ascii "rows 2 peak 2 pairs 0\n800 ?0=1\n? ?0=2\n"
 
 -- ---- the table
 
@@ -262,20 +262,20 @@ expected (x gives y) = y
 expected (t with s prints y) = y
 
 -- cases 1 to 9 of document 01
-paperCases : List Case
-paperCases =
+paper_cases : List Case
+paper_cases =
     -- 1
-    (length (E joinAB) ∷ [] gives 25 ∷ [])
-    ∷ (W with E joinAB prints ascii "rows 1 peak 6 pairs 4\n800 ?0=1 ?1=11\n")
+    (length (E join_aB) ∷ [] gives 25 ∷ [])
+    ∷ (W with E join_aB prints ascii "rows 1 peak 6 pairs 4\n800 ?0=1 ?1=11\n")
     -- 2
-    ∷ (length (rewriting (E joinAB)) ∷ [] gives 29 ∷ [])
-    ∷ (rewriting (E joinAB) gives hex "10" ++ (E A ++ E B))
-    ∷ (W with rewriting (E joinAB) prints ascii "rows 1 peak 3 pairs 1\n800 ?0=1 ?1=11\n")
+    ∷ (length (rewriting (E join_aB)) ∷ [] gives 29 ∷ [])
+    ∷ (rewriting (E join_aB) gives hex "10" ++ (E A ++ E B))
+    ∷ (W with rewriting (E join_aB) prints ascii "rows 1 peak 3 pairs 1\n800 ?0=1 ?1=11\n")
     -- 3
-    ∷ (W with E (leftAB (hex "70")) prints ascii "rows 1 peak 7 pairs 4\n800 ?0=1 ?1=11\n")
+    ∷ (W with E (left_aB (hex "70")) prints ascii "rows 1 peak 7 pairs 4\n800 ?0=1 ?1=11\n")
     -- 4
-    ∷ (rewriting (E (leftAB (hex "70"))) gives E (hex "20 70" ++ (E A ++ B)))
-    ∷ (W with rewriting (E (leftAB (hex "70"))) prints ascii "rows 1 peak 5 pairs 2\n800 ?0=1 ?1=11\n")
+    ∷ (rewriting (E (left_aB (hex "70"))) gives E (hex "20 70" ++ (E A ++ B)))
+    ∷ (W with rewriting (E (left_aB (hex "70"))) prints ascii "rows 1 peak 5 pairs 2\n800 ?0=1 ?1=11\n")
     -- 5
     ∷ (W with any_known A prints ascii "rows 1 peak 2 pairs 0\n800 ?0=1\n")
     -- 6
@@ -288,47 +288,47 @@ paperCases =
     ∷ (W with [] prints ascii "refused 6 at 0\n")
     ∷ (checked W (hex "00 00") gives 6 ∷ 1 ∷ [])
     -- 9
-    ∷ (ceilings W joinAB gives 0 ∷ 0 ∷ 4 ∷ [])
+    ∷ (ceilings W join_aB gives 0 ∷ 0 ∷ 4 ∷ [])
     ∷ []
 
 -- order, trust, shortcuts, conditions, words
-moreCases : List Case
-moreCases =
+more_cases : List Case
+more_cases =
     -- document 01's record: (1, 10, 11) with trust 900; and the last of W, whose trust is unknown
     (fields (hex "00 00 10 00 0A 00 00 BF 6C") gives 1 ∷ 10 ∷ 11 ∷ 1900 ∷ [])
     ∷ (fields (hex "00 00 20 00 14 00 01 50 00") gives 2 ∷ 20 ∷ 21 ∷ 2001 ∷ [])
     -- the greatest trust, 1000, is sound
     ∷ (checked (hex "00 00 10 00 0A 00 00 BF D0") (hex "00") gives 0 ∷ 0 ∷ [])
     -- shortcut: E into the right of a left join would list ?0 = 1 bare
-    ∷ (twoRecords with E (leftAB (hex "70")) prints ascii "rows 0 peak 3 pairs 1\n")
-    ∷ (twoRecords with rewriting (E (leftAB (hex "70"))) prints ascii "rows 0 peak 3 pairs 1\n")
+    ∷ (two_records with E (left_aB (hex "70")) prints ascii "rows 0 peak 3 pairs 1\n")
+    ∷ (two_records with rewriting (E (left_aB (hex "70"))) prints ascii "rows 0 peak 3 pairs 1\n")
     -- shortcut: -1000 to 1000 as if it were none would list ?0 = 2, which is unknown
     ∷ (rewriting (any_known A) gives any_known A)
     ∷ (W with rewriting (any_known A) prints ascii "rows 1 peak 2 pairs 0\n800 ?0=1\n")
     -- shortcut: an unmatched left row, ?0 = 2, would be listed twice
-    ∷ (W with leftAB (hex "70") prints ascii "rows 3 peak 7 pairs 4\n800 ?0=1 ?1=11\n200 ?0=1 ?1=12\n? ?0=2\n")
+    ∷ (W with left_aB (hex "70") prints ascii "rows 3 peak 7 pairs 4\n800 ?0=1 ?1=11\n200 ?0=1 ?1=12\n? ?0=2\n")
     -- shortcut: u handed to the operands of a join would lose the row of 400 and 900
-    ∷ (lowAndHigh with atMost500 joinAB prints ascii "rows 1 peak 3 pairs 1\n400 ?0=1 ?1=11\n")
-    ∷ (rewriting (atMost500 joinAB) gives atMost500 (hex "10" ++ (any_known A ++ any_known B)))
-    ∷ (lowAndHigh with rewriting (atMost500 joinAB) prints ascii "rows 1 peak 3 pairs 1\n400 ?0=1 ?1=11\n")
+    ∷ (low_and_high with at_most500 join_aB prints ascii "rows 1 peak 3 pairs 1\n400 ?0=1 ?1=11\n")
+    ∷ (rewriting (at_most500 join_aB) gives at_most500 (hex "10" ++ (any_known A ++ any_known B)))
+    ∷ (low_and_high with rewriting (at_most500 join_aB) prints ascii "rows 1 peak 3 pairs 1\n400 ?0=1 ?1=11\n")
     -- a bound in a bound: the greater l and the lesser u
-    ∷ (rewriting (E (atMost500 A)) gives hex "60 5D C5 DC" ++ A)
+    ∷ (rewriting (E (at_most500 A)) gives hex "60 5D C5 DC" ++ A)
     -- a set of two patterns: by the first pattern's record, then the second's; the least trust
     ∷ (W with hex "02 10 00 00 00 00 0A 10 00 01 10 00 02 00 00 14 00 00 15"
     prints ascii "rows 4 peak 4 pairs 0\n800 ?0=1 ?1=11 ?2=1\n? ?0=1 ?1=11 ?2=2\n200 ?0=1 ?1=12 ?2=1\n? ?0=1 ?1=12 ?2=2\n")
     -- the same set by tuples of records; one whose patterns share a variable; one in which a variable would get two terms
-    ∷ (tupleLines (triple (aVariable 0) (aTerm 10) (aVariable 1) ∷ triple (aVariable 2) (aTerm 20) (aTerm 21) ∷ [])
+    ∷ (tuple_lines (triple (a_variable 0) (a_term 10) (a_variable 1) ∷ triple (a_variable 2) (a_term 20) (a_term 21) ∷ [])
     gives ascii "800 ?0=1 ?1=11 ?2=1\n? ?0=1 ?1=11 ?2=2\n200 ?0=1 ?1=12 ?2=1\n? ?0=1 ?1=12 ?2=2\n")
-    ∷ (tupleLines setAB gives ascii "800 ?0=1 ?1=11\n200 ?0=1 ?1=12\n")
-    ∷ (tupleLines (triple (aVariable 0) (aTerm 10) (aVariable 0) ∷ []) gives [])
+    ∷ (tuple_lines set_aB gives ascii "800 ?0=1 ?1=11\n200 ?0=1 ?1=12\n")
+    ∷ (tuple_lines (triple (a_variable 0) (a_term 10) (a_variable 0) ∷ []) gives [])
     -- solutions: with the trust of the records once; with another trust, with a free variable, with one that stands nowhere, never
-    ∷ (solutions setAB (term 1 ∷ term 11 ∷ []) 1800 gives 1 ∷ [])
-    ∷ (solutions setAB (term 1 ∷ term 11 ∷ []) 1900 gives 0 ∷ [])
-    ∷ (solutions setAB (term 1 ∷ []) 1800 gives 0 ∷ [])
-    ∷ (solutions setAB (term 1 ∷ term 11 ∷ term 1 ∷ []) 1800 gives 0 ∷ [])
+    ∷ (solutions set_aB (term 1 ∷ term 11 ∷ []) 1800 gives 1 ∷ [])
+    ∷ (solutions set_aB (term 1 ∷ term 11 ∷ []) 1900 gives 0 ∷ [])
+    ∷ (solutions set_aB (term 1 ∷ []) 1800 gives 0 ∷ [])
+    ∷ (solutions set_aB (term 1 ∷ term 11 ∷ term 1 ∷ []) 1800 gives 0 ∷ [])
     -- two patterns that become one record
-    ∷ (tupleLines setTwice gives ascii "800 ?0=1 ?1=21\n? ?0=2 ?1=21\n")
-    ∷ (solutions setTwice (term 1 ∷ term 21 ∷ []) 1800 gives 1 ∷ [])
+    ∷ (tuple_lines set_twice gives ascii "800 ?0=1 ?1=21\n? ?0=2 ?1=21\n")
+    ∷ (solutions set_twice (term 1 ∷ term 21 ∷ []) 1800 gives 1 ∷ [])
     -- a variable that stands twice gets one term: {?0 10 ?0} has no row
     ∷ (W with hex "01 10 00 00 00 00 0A 10 00 00" prints ascii "rows 0 peak 0 pairs 0\n")
     -- a join: by the left row, then the right row
@@ -338,23 +338,23 @@ moreCases =
     ∷ (W with hex "30" ++ (A ++ B)
     prints ascii "rows 4 peak 4 pairs 0\n800 ?0=1\n? ?0=2\n900 ?0=1 ?1=11\n200 ?0=1 ?1=12\n")
     -- a left join whose condition, ?1 same as the free ?2, errs on each merge of ?0 = 1: that row itself, once
-    ∷ (W with leftAB (hex "11 02") prints ascii "rows 2 peak 6 pairs 4\n800 ?0=1\n? ?0=2\n")
+    ∷ (W with left_aB (hex "11 02") prints ascii "rows 2 peak 6 pairs 4\n800 ?0=1\n? ?0=2\n")
     -- an error on one merge and false on the other: the same
-    ∷ (W with leftAB (hex "50 21 00 00 0B 11 02") prints ascii "rows 2 peak 6 pairs 4\n800 ?0=1\n? ?0=2\n")
+    ∷ (W with left_aB (hex "50 21 00 00 0B 11 02") prints ascii "rows 2 peak 6 pairs 4\n800 ?0=1\n? ?0=2\n")
     -- left rows that stand twice, and an error on each merge: each of them, once
     ∷ (W with hex "20 11 02 30" ++ (A ++ (A ++ B)) prints ascii "rows 4 peak 10 pairs 8\n800 ?0=1\n? ?0=2\n800 ?0=1\n? ?0=2\n")
     -- the trust of the left row, in ?2, less than itself: false where it is known, an error where it is unknown
     ∷ (W with hex "20 32 02 52" ++ (A ++ hex "00") prints ascii "rows 2 peak 5 pairs 2\n800 ?0=1 ?2=t800\n? ?0=2 ?2=t?\n")
     -- true on one merge and an error on the other: the true one, and not the row itself
-    ∷ (W with leftAB (hex "60 21 00 00 0B 11 02") prints ascii "rows 2 peak 6 pairs 4\n800 ?0=1 ?1=11\n? ?0=2\n")
+    ∷ (W with left_aB (hex "60 21 00 00 0B 11 02") prints ascii "rows 2 peak 6 pairs 4\n800 ?0=1 ?1=11\n? ?0=2\n")
     -- false on every merge: the left rows themselves
-    ∷ (W with leftAB (hex "40 70") prints ascii "rows 2 peak 6 pairs 4\n800 ?0=1\n? ?0=2\n")
+    ∷ (W with left_aB (hex "40 70") prints ascii "rows 2 peak 6 pairs 4\n800 ?0=1\n? ?0=2\n")
     -- the left row ?0 = 1 as published, and in SPARQL 1.1: under an error, an error and false, false, true and an error; and its merge then
-    ∷ (counts (leftAB (hex "11 02")) (term 1 ∷ []) 1800 gives 0 ∷ 1 ∷ [])
-    ∷ (counts (leftAB (hex "50 21 00 00 0B 11 02")) (term 1 ∷ []) 1800 gives 0 ∷ 1 ∷ [])
-    ∷ (counts (leftAB (hex "40 70")) (term 1 ∷ []) 1800 gives 1 ∷ 1 ∷ [])
-    ∷ (counts (leftAB (hex "60 21 00 00 0B 11 02")) (term 1 ∷ []) 1800 gives 0 ∷ 0 ∷ [])
-    ∷ (counts (leftAB (hex "60 21 00 00 0B 11 02")) (term 1 ∷ term 11 ∷ []) 1800 gives 1 ∷ 1 ∷ [])
+    ∷ (counts (left_aB (hex "11 02")) (term 1 ∷ []) 1800 gives 0 ∷ 1 ∷ [])
+    ∷ (counts (left_aB (hex "50 21 00 00 0B 11 02")) (term 1 ∷ []) 1800 gives 0 ∷ 1 ∷ [])
+    ∷ (counts (left_aB (hex "40 70")) (term 1 ∷ []) 1800 gives 1 ∷ 1 ∷ [])
+    ∷ (counts (left_aB (hex "60 21 00 00 0B 11 02")) (term 1 ∷ []) 1800 gives 0 ∷ 0 ∷ [])
+    ∷ (counts (left_aB (hex "60 21 00 00 0B 11 02")) (term 1 ∷ term 11 ∷ []) 1800 gives 1 ∷ 1 ∷ [])
     -- and where it stands twice
     ∷ (counts (hex "20 11 02 30" ++ (A ++ (A ++ B))) (term 1 ∷ []) 1800 gives 0 ∷ 2 ∷ [])
     -- an unknown trust: projected, bound on it, an error for same
@@ -364,7 +364,7 @@ moreCases =
     -- a term and a known trust are not the same, which is no error: not of it keeps ?0 = 1
     ∷ (W with hex "40 40 10 01 51" ++ A prints ascii "rows 1 peak 2 pairs 0\n800 ?0=1 ?1=t800\n")
     -- less compares known trusts: 200 below 800
-    ∷ (twoRecords with hex "40 33 02 10 53" ++ (B ++ (hex "52" ++ A))
+    ∷ (two_records with hex "40 33 02 10 53" ++ (B ++ (hex "52" ++ A))
     prints ascii "rows 1 peak 3 pairs 1\n200 ?0=1 ?1=12 ?2=t800 ?3=t200\n")
     -- trusts below 0
     ∷ (negative with hex "30 52" ++ (A ++ B) prints ascii "rows 2 peak 2 pairs 0\n-1000 ?0=1 ?2=t-1000\n-5 ?0=1 ?1=11\n")
@@ -379,33 +379,33 @@ moreCases =
     ∷ []
 
 -- what push does to each kind of node
-pushCases : List Case
-pushCases =
+push_cases : List Case
+push_cases =
     (rewriting (E (hex "30" ++ (A ++ B))) gives hex "30" ++ (E A ++ E B))
     ∷ (rewriting (E (hex "40 00" ++ A)) gives hex "40 00" ++ E A)
     ∷ (rewriting (E (hex "52" ++ A)) gives hex "52" ++ E A)
     ∷ (rewriting (E (hex "00")) gives E (hex "00"))
     -- a left join is wrapped also where u is below 1000
-    ∷ (rewriting (atMost500 (leftAB (hex "70"))) gives atMost500 (hex "20 70" ++ (any_known A ++ B)))
+    ∷ (rewriting (at_most500 (left_aB (hex "70"))) gives at_most500 (hex "20 70" ++ (any_known A ++ B)))
     -- under none nothing changes
-    ∷ (rewriting joinAB gives joinAB)
-    ∷ (rewriting (leftAB (hex "70")) gives leftAB (hex "70"))
+    ∷ (rewriting join_aB gives join_aB)
+    ∷ (rewriting (left_aB (hex "70")) gives left_aB (hex "70"))
     -- a bound under a join stays there
     ∷ (rewriting (hex "10" ++ (E A ++ B)) gives hex "10" ++ (E A ++ B))
     ∷ []
 
 -- the truths of conditions, as filters: on A's rows ?0 is a term and ?1, ?2 are free; in 51 A ?1 is 800, then unknown
-conditionCases : List Case
-conditionCases =
+condition_cases : List Case
+condition_cases =
     -- bound on a free cell is false
     (W with hex "40 02" ++ A prints no_rows)
-    ∷ (W with hex "40 40 02" ++ A prints bothRows)
+    ∷ (W with hex "40 40 02" ++ A prints both_rows)
     -- not of an error is an error; true and an error is an error; false and an error is false
     ∷ (W with hex "40 40 11 02" ++ A prints no_rows)
     ∷ (W with hex "40 50 70 11 02" ++ A prints no_rows)
-    ∷ (W with hex "40 40 50 40 70 11 02" ++ A prints bothRows)
+    ∷ (W with hex "40 40 50 40 70 11 02" ++ A prints both_rows)
     -- true or an error is true; false or an error is an error
-    ∷ (W with hex "40 60 11 02 70" ++ A prints bothRows)
+    ∷ (W with hex "40 60 11 02 70" ++ A prints both_rows)
     ∷ (W with hex "40 60 11 02 40 70" ++ A prints no_rows)
     -- is-term: on a term, on a free cell an error, on a known trust false, on an unknown one an error
     ∷ (W with hex "40 20 00 00 02" ++ A prints ascii "rows 1 peak 2 pairs 0\n? ?0=2\n")
@@ -417,8 +417,8 @@ conditionCases =
     ∷ []
 
 -- ceilings and tallies
-figureCases : List Case
-figureCases =
+figure_cases : List Case
+figure_cases =
     -- ceilings: the empty set, a union's sum, a left join whose right side is empty; of sets whose patterns share their variables, and
     -- share none; a product that is cut, and beside a 0
     (ceilings W (hex "00") gives 0 ∷ 0 ∷ 1 ∷ [])
@@ -429,45 +429,45 @@ figureCases =
     ∷ (ceilings W (hex "10 10 10" ++ (five ++ (five ++ (five ++ five)))) gives 0 ∷ 0 ∷ 4294967295 ∷ [])
     ∷ (ceilings W (hex "10 10 10 10" ++ (five ++ (five ++ (five ++ (five ++ none))))) gives 0 ∷ 0 ∷ 0 ∷ [])
     -- tallies: answered, refused; a count that has stopped
-    ∷ (tallies zeroTally (evaluation (hex "00") ∷ evaluation [] ∷ evaluation (hex "00") ∷ []) gives 2 ∷ 1 ∷ [])
+    ∷ (tallies zero_tally (evaluation (hex "00") ∷ evaluation [] ∷ evaluation (hex "00") ∷ []) gives 2 ∷ 1 ∷ [])
     ∷ (tallies (record { answered = 4294967295; refused = 3 }) (evaluation (hex "00") ∷ evaluation [] ∷ []) gives 4294967295 ∷ 4 ∷ [])
     ∷ (tallies (record { answered = 3; refused = 4294967295 }) (evaluation [] ∷ []) gives 3 ∷ 4294967295 ∷ [])
     -- totals count once: answered; refused for the output alone
-    ∷ (tallies zeroTally (totalsInto 3 (hex "00") ∷ evaluation (hex "00") ∷ totalsInto 2 (hex "00") ∷ []) gives 2 ∷ 1 ∷ [])
+    ∷ (tallies zero_tally (totals_into 3 (hex "00") ∷ evaluation (hex "00") ∷ totals_into 2 (hex "00") ∷ []) gives 2 ∷ 1 ∷ [])
     ∷ []
 
 -- means (request 4)
-meanCases : List Case
-meanCases =
+mean_cases : List Case
+mean_cases =
     -- {?0 10 ?1, ?2 20 21}: of 900 and 800, 900 and unknown, 200 and 800, 200 and unknown
-    (meanLines W (hex "02" ++ (p_any ++ hex "10 00 02 00 00 14 00 00 15"))
+    (mean_lines W (hex "02" ++ (p_any ++ hex "10 00 02 00 00 14 00 00 15"))
     gives ascii "850 ?0=1 ?1=11 ?2=1\n? ?0=1 ?1=11 ?2=2\n500 ?0=1 ?1=12 ?2=1\n? ?0=1 ?1=12 ?2=2\n")
     -- {?0 10 11, ?0 10 ?1}: a record that both patterns use counts once
-    ∷ (meanLines W (hex "02" ++ (p11 ++ p_any)) gives ascii "900 ?0=1 ?1=11\n550 ?0=1 ?1=12\n")
+    ∷ (mean_lines W (hex "02" ++ (p11 ++ p_any)) gives ascii "900 ?0=1 ?1=11\n550 ?0=1 ?1=12\n")
     -- {?0 10 11, ?0 10 ?1, ?0 10 11}: 550, and not 666
-    ∷ (meanLines W (hex "03" ++ (p11 ++ (p_any ++ p11))) gives ascii "900 ?0=1 ?1=11\n550 ?0=1 ?1=12\n")
+    ∷ (mean_lines W (hex "03" ++ (p11 ++ (p_any ++ p11))) gives ascii "900 ?0=1 ?1=11\n550 ?0=1 ?1=12\n")
     -- of -5 and -1000: -502.5, rounded down; of 0, 0 and -1: a third less than 0, rounded down
-    ∷ (meanLines negative (hex "02" ++ (p_any ++ hex "10 00 00 00 00 14 00 00 15")) gives ascii "-503 ?0=1 ?1=11\n")
-    ∷ (meanLines thirds (hex "03" ++ (p11 ++ (p12 ++ hex "10 00 00 00 00 0A 00 00 0D"))) gives ascii "-1 ?0=1\n")
+    ∷ (mean_lines negative (hex "02" ++ (p_any ++ hex "10 00 00 00 00 14 00 00 15")) gives ascii "-503 ?0=1 ?1=11\n")
+    ∷ (mean_lines thirds (hex "03" ++ (p11 ++ (p12 ++ hex "10 00 00 00 00 0A 00 00 0D"))) gives ascii "-1 ?0=1\n")
     -- the empty set
-    ∷ (meanLines W (hex "00") gives ascii "1000\n")
+    ∷ (mean_lines W (hex "00") gives ascii "1000\n")
     -- a join has the lesser of 550 and 800
-    ∷ (meanLines W joinTwo gives ascii "550 ?0=1\n")
+    ∷ (mean_lines W join_two gives ascii "550 ?0=1\n")
     -- a bound at the mean, and a thousandth above it
-    ∷ (meanLines W (hex "60 60 E7 D0" ++ joinTwo) gives ascii "550 ?0=1\n")
-    ∷ (meanLines W (hex "60 60 F7 D0" ++ joinTwo) gives [])
+    ∷ (mean_lines W (hex "60 60 E7 D0" ++ join_two) gives ascii "550 ?0=1\n")
+    ∷ (mean_lines W (hex "60 60 F7 D0" ++ join_two) gives [])
     -- pushed to the operands, a bound keeps the row whose least record is below it
-    ∷ (rewriting (E joinTwo) gives hex "10" ++ (E (hex "02" ++ (p11 ++ p12)) ++ E A))
-    ∷ (meanLines W (rewriting (E joinTwo)) gives ascii "550 ?0=1\n")
+    ∷ (rewriting (E join_two) gives hex "10" ++ (E (hex "02" ++ (p11 ++ p12)) ++ E A))
+    ∷ (mean_lines W (rewriting (E join_two)) gives ascii "550 ?0=1\n")
     -- on the calls; the trust of a group is the least of its rows' means, 900 and 550
-    ∷ (evaluatedBy byMean W (hex "02" ++ (p11 ++ p12)) 17 gives 0 ∷ 0 ∷ 1 ∷ 1 ∷ 0 ∷ 1 ∷ (replicate 15 0 ++ (1550 ∷ [])))
-    ∷ (evaluatedBy byLeast W (hex "02" ++ (p11 ++ p12)) 17 gives 0 ∷ 0 ∷ 1 ∷ 1 ∷ 0 ∷ 1 ∷ (replicate 15 0 ++ (1200 ∷ [])))
-    ∷ (totalledBy byMean (hex "02" ++ (p11 ++ p_any)) 0 34 3 gives 0 ∷ 0 ∷ 3 ∷ 1 ∷ 2 ∷ 1550 ∷ [])
+    ∷ (evaluated_by by_mean W (hex "02" ++ (p11 ++ p12)) 17 gives 0 ∷ 0 ∷ 1 ∷ 1 ∷ 0 ∷ 1 ∷ (replicate 15 0 ++ (1550 ∷ [])))
+    ∷ (evaluated_by by_least W (hex "02" ++ (p11 ++ p12)) 17 gives 0 ∷ 0 ∷ 1 ∷ 1 ∷ 0 ∷ 1 ∷ (replicate 15 0 ++ (1200 ∷ [])))
+    ∷ (totalled_by by_mean (hex "02" ++ (p11 ++ p_any)) 0 34 3 gives 0 ∷ 0 ∷ 3 ∷ 1 ∷ 2 ∷ 1550 ∷ [])
     ∷ []
 
 -- totals (request 1)
-totalsCases : List Case
-totalsCases =
+totals_cases : List Case
+totals_cases =
     -- each strike of A, and one word more; the second's sample is unknown
     (totalled A 0 34 7 gives 0 ∷ 0 ∷ 6 ∷ 1 ∷ 1 ∷ 1800 ∷ 2 ∷ 1 ∷ 2001 ∷ 7 ∷ [])
     -- B, A and {?0 20 ?1} together by ?1: the free cells of A are a group between others, unknown since one of its rows is
@@ -481,19 +481,19 @@ totalsCases =
     ∷ (totalled none 0 0 0 gives 0 ∷ 0 ∷ 0 ∷ [])
     -- the variable is 16, and there is no room for the rows either: the row space is untouched
     ∷ (totalled A 16 1 1 gives 10 ∷ 0 ∷ 0 ∷ 7 ∷ [])
-    ∷ (totalledSpace A 16 1 1 gives 7 ∷ [])
+    ∷ (totalled_space A 16 1 1 gives 7 ∷ [])
     -- 7 comes before; 8 comes before the output's 10
     ∷ (totalled (hex "50" ++ A) 16 1 1 gives 7 ∷ 0 ∷ 0 ∷ 7 ∷ [])
     ∷ (totalled A 0 33 1 gives 8 ∷ 0 ∷ 0 ∷ 7 ∷ [])
-    ∷ (totalledSpace A 0 33 1 gives replicate 33 0)
+    ∷ (totalled_space A 0 33 1 gives replicate 33 0)
     -- an output a word too short is unchanged, and the row space has the row of the empty set
     ∷ (totalled (hex "00") 3 18 2 gives 10 ∷ 3 ∷ 0 ∷ 7 ∷ 7 ∷ [])
-    ∷ (totalledSpace (hex "00") 3 18 2 gives replicate 16 0 ++ (2000 ∷ 0 ∷ []))
+    ∷ (totalled_space (hex "00") 3 18 2 gives replicate 16 0 ++ (2000 ∷ 0 ∷ []))
     ∷ []
 
 -- each refusal, and places
-refusalCases : List Case
-refusalCases =
+refusal_cases : List Case
+refusal_cases =
     -- 1 and 2: a table that is not whole records; a facts file that is too long, though it is not whole records either
     (checked (hex "00 00 10 00 0A 00 00 BF") [] gives 1 ∷ 0 ∷ [])
     ∷ (replicate 65530 0 with [] prints ascii "refused 2 at 0\n")
@@ -540,7 +540,7 @@ refusalCases =
     ∷ []
 
 pub cases : List Case
-cases = paperCases ++ (moreCases ++ (pushCases ++ (conditionCases ++ (figureCases ++ (meanCases ++ (totalsCases ++ refusalCases))))))
+cases = paper_cases ++ (more_cases ++ (push_cases ++ (condition_cases ++ (figure_cases ++ (mean_cases ++ (totals_cases ++ refusal_cases))))))
 
 -- ---- printouts, with nothing worked out twice
 
@@ -548,35 +548,35 @@ cases = paperCases ++ (moreCases ++ (pushCases ++ (conditionCases ++ (figureCase
 reported : ℕ → List ℕ → List ℕ → List ℕ
 reported words t s =
     let r = check t s in
-    let q = queryNode s in
-    let fs = factsIn (wholeTable t) t in
-    let rs = rowsOver least fs q in
+    let q = query_node s in
+    let fs = facts_in (whole_table t) t in
+    let rs = rows_over least fs q in
     let rows = length rs in
-    let peak = spaceOver least fs q in
-    let pairs = pairsOver least fs q in
-    let counts : Evaluated = record { refusal = noRefusal; rows = rows; peak = peak; pairs = pairs; rowSpace = [] } in
-    let answered = countsLine counts ++ concatMap row_line rs in
-    cond (passes r) (cond (ltb (capacity words) peak) (refusedLine (refuse 8 0)) answered) (refusedLine r)
+    let peak = space_over least fs q in
+    let pairs = pairs_over least fs q in
+    let counts : Evaluated = record { refusal = no_refusal; rows = rows; peak = peak; pairs = pairs; row_space = [] } in
+    let answered = counts_line counts ++ concat_map row_line rs in
+    cond (passes r) (cond (ltb (capacity words) peak) (refused_line (refuse 8 0)) answered) (refused_line r)
 
 reported-is : (words : ℕ) (t s : List ℕ)
-    → report (evaluateUntallied t s byLeast (replicate words 0)) (rowsOver (aggregate byLeast) (factsIn (wholeTable t) t) (queryNode s))
+    → report (evaluate_untallied t s by_least (replicate words 0)) (rows_over (aggregate by_least) (facts_in (whole_table t) t) (query_node s))
     ≡ reported words t s
-unfolding report evaluateOver answer countsLine reported
+unfolding report evaluate_over answer counts_line reported
 reported-is words t s =
-    rw (length-replicate {A = ℕ} words 0) (go (passes (check t s)) refl (ltb (capacity words) (spaceOver least fs (queryNode s))))
+    rw (length-replicate {A = ℕ} words 0) (go (passes (check t s)) refl (ltb (capacity words) (space_over least fs (query_node s))))
   where
     fs : List Fact
-    fs = factsIn (wholeTable t) t
+    fs = facts_in (whole_table t) t
 
     rs : List Row
-    rs = rowsOver least fs (queryNode s)
+    rs = rows_over least fs (query_node s)
 
     counts : Evaluated
-    counts = answeredWith least fs (queryNode s) words
+    counts = answered_with least fs (query_node s) words
 
     go : (b : Bool) → passes (check t s) ≡ b → (full : Bool)
-        → report (cond b (cond full (refusedWith (refuse 8 0) (replicate words 0)) counts) (refusedWith (check t s) (replicate words 0))) rs
-        ≡ cond b (cond full (refusedLine (refuse 8 0)) (countsLine counts ++ concatMap row_line rs)) (refusedLine (check t s))
+        → report (cond b (cond full (refused_with (refuse 8 0) (replicate words 0)) counts) (refused_with (check t s) (replicate words 0))) rs
+        ≡ cond b (cond full (refused_line (refuse 8 0)) (counts_line counts ++ concat_map row_line rs)) (refused_line (check t s))
     go true e true = refl
     go true e false = refl
     go false e full = rw e
@@ -584,67 +584,67 @@ reported-is words t s =
 quick : Case → List ℕ
 quick (x gives y) = x
 quick (t with s prints y) =
-    cond (ltb factsLimit (length t)) (refusedLine (refuse 2 0)) (reported (rowLength * programRows) t (worked s))
+    cond (ltb facts_limit (length t)) (refused_line (refuse 2 0)) (reported (row_length * program_rows) t (worked s))
 
 computed-quick : (c : Case) → computed c ≡ quick c
 unfolding computed strikes quick
 computed-quick (x gives y) = refl
-computed-quick (t with s prints y) = rw (worked-is s, ← reported-is (rowLength * programRows) t s)
+computed-quick (t with s prints y) = rw (worked-is s, ← reported-is (row_length * program_rows) t s)
 
 -- ---- the proof
 
 -- each opens a group of what the cases compute with
 inputs : Unit {0}
-unfolding nibble nibbles inPairs hex W twoRecords lowAndHigh negative A B C none fifteen five unions longest E any_known atMost500 joinAB
-    leftAB
+unfolding nibble nibbles in_pairs hex W two_records low_and_high negative A B C none fifteen five unions longest E any_known at_most500 join_aB
+    left_aB
 inputs = tt
 
 entries : Unit {0}
-unfolding evaluatedBy evaluated checked ceilings rewritten fields no_rows bothRows worked reported quick expected
+unfolding evaluated_by evaluated checked ceilings rewritten fields no_rows both_rows worked reported quick expected
 entries = tt
 
 totalling : Unit {0}
-unfolding totalledBy totalled totalledSpace request evaluation totalsInto tallies
+unfolding totalled_by totalled totalled_space request evaluation totals_into tallies
 totalling = tt
 
 means : Unit {0}
-unfolding thirds p11 p12 p_any joinTwo meanLines
+unfolding thirds p11 p12 p_any join_two mean_lines
 means = tt
 
 sets : Unit {0}
-unfolding triple tupleLines setAB setTwice row_of solutions counts nodeCardinality tuples tupleRows
+unfolding triple tuple_lines set_aB set_twice row_of solutions counts node_cardinality tuples tuple_rows
 sets = tt
 
 lists : Unit {0}
-unfolding paperCases moreCases pushCases conditionCases figureCases meanCases totalsCases refusalCases cases
+unfolding paper_cases more_cases push_cases condition_cases figure_cases mean_cases totals_cases refusal_cases cases
 lists = tt
 
 rows : Unit {0}
-unfolding compatible mergeCells truthOn trueOn stands rows_of space_of pairsOf bindPattern matches choices least mean setRows
+unfolding compatible merge_cells truth_on true_on stands rows_of space_of pairs_of bind_pattern matches choices least mean set_rows
 rows = tt
 
 tables : Unit {0}
-unfolding bigEndian recordAt fact_of below factAt factsIn recordRefusal recordsRefusal tableRefusal
+unfolding big_endian record_at fact_of below fact_at facts_in record_refusal records_refusal table_refusal
 tables = tt
 
 writers : Unit {0}
-unfolding patternBytes conditionBytes nodeBytes push rewriting rewriteRefusal rewrite
+unfolding pattern_bytes condition_bytes node_bytes push rewriting rewrite_refusal rewrite
 writers = tt
 
 readers : Unit {0}
-unfolding readPattern readPatterns conditionStep readConditionIn readCondition nodeStep readNodeIn read_node readQuery queryNode
+unfolding read_pattern read_patterns condition_step read_condition_in read_condition node_step read_node_in read_node read_query query_node
 readers = tt
 
 calls : Unit {0}
-unfolding trustProjections patternVariables variablesRefusal queryRefusal check rowWords answer evaluateOver
+unfolding trust_projections pattern_variables variables_refusal query_refusal check row_words answer evaluate_over
 calls = tt
 
 figures : Unit {0}
-unfolding ceilingOf ceilingOver tallied run evaluateUnless leastTrust groups totalsWords totalsOver
+unfolding ceiling_of ceiling_over tallied run evaluate_unless least_trust groups totals_words totals_over
 figures = tt
 
 text : Unit {0}
-unfolding ascii digits decimal row_line refusedLine countsLine
+unfolding ascii digits decimal row_line refused_line counts_line
 text = tt
 
 -- every entry gives what it should

@@ -9,41 +9,41 @@ use native.Mathlib.Nat.{le_trans}
 use native.Mathlib.Omega.{arith}
 use borrow.Author.Tests.{eqb-true, eqb-false}
 use lib.ListN.{length}
-use Rattle.tsparql.specs.Lists.{Every, concatMap}
+use Rattle.tsparql.specs.Lists.{Every, concat_map}
 use Rattle.tsparql.specs.Query.{Node}
-use Rattle.tsparql.specs.Table.{Fact, View, wholeTable, factsIn}
-use Rattle.tsparql.specs.PatternSets.{SoundFact, SoundAggregate, Aggregate, Aggregation, aggregate, setRows, spaceOver}
-use Rattle.tsparql.specs.Push.{noBound, push}
-use Rattle.tsparql.specs.Reading.{queryNode}
-use Rattle.tsparql.specs.Check.{Passes, noRefusal, passes, tableRefusal, queryRefusal, evaluateLimit, check}
-use Rattle.tsparql.specs.Evaluate.{rowWords, capacity, padded, Evaluated, refusedWith, answer, evaluateOver}
-use Rattle.tsparql.specs.Rewrite.{rewriteLimit, rewriting, Accepted, written}
+use Rattle.tsparql.specs.Table.{Fact, View, whole_table, facts_in}
+use Rattle.tsparql.specs.PatternSets.{SoundFact, SoundAggregate, Aggregate, Aggregation, aggregate, set_rows, space_over}
+use Rattle.tsparql.specs.Push.{no_bound, push}
+use Rattle.tsparql.specs.Reading.{query_node}
+use Rattle.tsparql.specs.Check.{Passes, no_refusal, passes, table_refusal, query_refusal, evaluate_limit, check}
+use Rattle.tsparql.specs.Evaluate.{row_words, capacity, padded, Evaluated, refused_with, answer, evaluate_over}
+use Rattle.tsparql.specs.Rewrite.{rewrite_limit, rewriting, Accepted, written}
 use Rattle.tsparql.specs.Calls.{Tally, evaluate}
 use Rattle.tsparql.specs.Demand3.{AnswersNode, AnsweredAlike, Demand3}
 use Rattle.tsparql.proofs.PushRows.{rows-push, space-push-≤, pairs-push-≤}
-use Rattle.tsparql.proofs.RefusalLaws.{orElse-first, orElse-second}
-use Rattle.tsparql.proofs.TableLaws.{tableRefusal-cases, facts-sound}
-use Rattle.tsparql.proofs.ChoiceLaws.{setRows-sound}
+use Rattle.tsparql.proofs.RefusalLaws.{or_else-first, or_else-second}
+use Rattle.tsparql.proofs.TableLaws.{table_refusal-cases, facts-sound}
+use Rattle.tsparql.proofs.ChoiceLaws.{set_rows-sound}
 use Rattle.tsparql.proofs.MeanLaws.{aggregate-sound}
-use Rattle.tsparql.proofs.QueryLaws.{rewriting-size-≤, queryNode-rewriting, query-passes, rewriting-passes}
+use Rattle.tsparql.proofs.QueryLaws.{rewriting-size-≤, query_node-rewriting, query-passes, rewriting-passes}
 use Rattle.tsparql.proofs.RewriteLaws.{accepted-passes, accepted-written}
 use Rattle.tsparql.proofs.EvaluateLaws.{answer-fits, answer-cases, answer-passes, evaluate-checked, evaluate-refused}
 
 -- ---- the check of both
 
 -- a refusal of a table is 1 to 4
-tableRefusal-≤4 : (t : List ℕ) → (tableRefusal t).number ≤ 4
-tableRefusal-≤4 t =
-    tableRefusal-cases (λ r. r.number ≤ 4) t zero-le (omega arith) (omega arith) (λ i l. (omega arith, omega arith))
+table_refusal-≤4 : (t : List ℕ) → (table_refusal t).number ≤ 4
+table_refusal-≤4 t =
+    table_refusal-cases (λ r. r.number ≤ 4) t zero-le (omega arith) (omega arith) (λ i l. (omega arith, omega arith))
 
 -- a query that passes leaves the refusal of the table
-check-passes : (t s : List ℕ) → queryRefusal evaluateLimit s ≡ noRefusal → Passes (tableRefusal t) → Passes (check t s)
+check-passes : (t s : List ℕ) → query_refusal evaluate_limit s ≡ no_refusal → Passes (table_refusal t) → Passes (check t s)
 unfolding check
-check-passes t s e z = rw (orElse-second (tableRefusal t) (queryRefusal evaluateLimit s) z, e)
+check-passes t s e z = rw (or_else-second (table_refusal t) (query_refusal evaluate_limit s) z, e)
 
-check-refuses : (t s : List ℕ) → (Passes (tableRefusal t) → ⊥) → check t s ≡ tableRefusal t
+check-refuses : (t s : List ℕ) → (Passes (table_refusal t) → ⊥) → check t s ≡ table_refusal t
 unfolding check
-check-refuses t s z = orElse-first (tableRefusal t) (queryRefusal evaluateLimit s) z
+check-refuses t s z = or_else-first (table_refusal t) (query_refusal evaluate_limit s) z
 
 -- ---- over a table that is checked
 
@@ -52,24 +52,24 @@ module _ (g : Aggregate) (sound : SoundAggregate g) (fs : List Fact) (facts : Ev
   e' = answer g fs q words
 
   abbrev r' : Evaluated
-  r' = answer g fs (push noBound q) words
+  r' = answer g fs (push no_bound q) words
 
-  push-fits : Passes e'.refusal → spaceOver g fs (push noBound q) ≤ capacity words
-  push-fits z = le_trans (space-push-≤ (setRows g fs) (setRows-sound g sound fs facts) noBound q) (answer-passes g fs q words z)
+  push-fits : Passes e'.refusal → space_over g fs (push no_bound q) ≤ capacity words
+  push-fits z = le_trans (space-push-≤ (set_rows g fs) (set_rows-sound g sound fs facts) no_bound q) (answer-passes g fs q words z)
 
   answers-alike : Passes e'.refusal → AnsweredAlike e' r'
   answers-alike z =
-      let same = rows-push (setRows g fs) (setRows-sound g sound fs facts) noBound q in
-      rw (answer-fits g fs q words (answer-passes g fs q words z), answer-fits g fs (push noBound q) words (push-fits z))
+      let same = rows-push (set_rows g fs) (set_rows-sound g sound fs facts) no_bound q in
+      rw (answer-fits g fs q words (answer-passes g fs q words z), answer-fits g fs (push no_bound q) words (push-fits z))
       (record {
         no-refusal = refl;
         same_rows = ap length same;
-        same-space = ap (λ rs. padded (concatMap rowWords rs) words) same;
-        no-more-peak = space-push-≤ (setRows g fs) (setRows-sound g sound fs facts) noBound q;
-        no-more-pairs = pairs-push-≤ (setRows g fs) (setRows-sound g sound fs facts) noBound q;
+        same-space = ap (λ rs. padded (concat_map row_words rs) words) same;
+        no-more-peak = space-push-≤ (set_rows g fs) (set_rows-sound g sound fs facts) no_bound q;
+        no-more-pairs = pairs-push-≤ (set_rows g fs) (set_rows-sound g sound fs facts) no_bound q;
       })
 
-  shows-answer : (p : Node) → spaceOver g fs p ≤ capacity words → AnswersNode g fs p words (answer g fs p words)
+  shows-answer : (p : Node) → space_over g fs p ≤ capacity words → AnswersNode g fs p words (answer g fs p words)
   shows-answer p h =
       rw (answer-fits g fs p words h)
       (record { rows_are = refl; peak-is = refl; pairs-are = refl; words_are = refl })
@@ -88,35 +88,35 @@ answer-numbers P g fs q words none eight = answer-cases g fs q words (λ e. P e.
 
 -- ---- the theorem
 
-module _ (g : Aggregate) (sound : SoundAggregate g) (v : View) (t s : List ℕ) (z : Passes (queryRefusal rewriteLimit s)) where
+module _ (g : Aggregate) (sound : SoundAggregate g) (v : View) (t s : List ℕ) (z : Passes (query_refusal rewrite_limit s)) where
   -- the two evaluations over a table that passes
-  answers-demand3 : (words : ℕ) → Passes (tableRefusal t)
-      → Demand3 g v t s (rewriting s) words (answer g (factsIn v t) (queryNode s) words)
-      (answer g (factsIn v t) (push noBound (queryNode s)) words)
+  answers-demand3 : (words : ℕ) → Passes (table_refusal t)
+      → Demand3 g v t s (rewriting s) words (answer g (facts_in v t) (query_node s) words)
+      (answer g (facts_in v t) (push no_bound (query_node s)) words)
   unfolding rewriting
   answers-demand3 words table =
-      let fs = factsIn v t in
-      let q = queryNode s in
+      let fs = facts_in v t in
+      let q = query_node s in
       let facts = facts-sound v t table in
       record {
         push-written = refl;
         five-times = rewriting-size-≤ s z;
         answered-alike = answers-alike g sound fs facts q words;
         query-shows = λ p. shows-answer g sound fs facts q words q (answer-passes g fs q words p);
-        written-shows = λ p. shows-answer g sound fs facts q words (push noBound q) (push-fits g sound fs facts q words p);
+        written-shows = λ p. shows-answer g sound fs facts q words (push no_bound q) (push-fits g sound fs facts q words p);
         table-alike = λ l h.
             absurd (answer-numbers (λ n. 1 ≤ n → n ≤ 4 → ⊥) g fs q words (λ i k. omega arith) (λ i k. omega arith) l h);
         full-alike = answers-full g sound fs facts q words;
         never-for-query =
-            answer-numbers (λ n. 5 ≤ n → n ≤ 7 → ⊥) g fs (push noBound q) words (λ l h. omega arith) (λ l h. omega arith);
+            answer-numbers (λ n. 5 ≤ n → n ≤ 7 → ⊥) g fs (push no_bound q) words (λ l h. omega arith) (λ l h. omega arith);
       }
 
   -- the two evaluations over a table that is refused
-  refusals-demand3 : (words : ℕ) (ws ws' : List ℕ) → (Passes (tableRefusal t) → ⊥)
-      → Demand3 g v t s (rewriting s) words (refusedWith (tableRefusal t) ws) (refusedWith (tableRefusal t) ws')
+  refusals-demand3 : (words : ℕ) (ws ws' : List ℕ) → (Passes (table_refusal t) → ⊥)
+      → Demand3 g v t s (rewriting s) words (refused_with (table_refusal t) ws) (refused_with (table_refusal t) ws')
   unfolding rewriting
   refusals-demand3 words ws ws' refused =
-      let most = tableRefusal-≤4 t in
+      let most = table_refusal-≤4 t in
       record {
         push-written = refl;
         five-times = rewriting-size-≤ s z;
@@ -129,22 +129,22 @@ module _ (g : Aggregate) (sound : SoundAggregate g) (v : View) (t s : List ℕ) 
       }
 
   rewriting-demand3 : (ws ws' : List ℕ) → length ws ≡ length ws'
-      → Demand3 g v t s (rewriting s) (length ws) (evaluateOver g v t s ws) (evaluateOver g v t (rewriting s) ws')
-  rewriting-demand3 ws ws' same = go (passes (tableRefusal t)) refl
+      → Demand3 g v t s (rewriting s) (length ws) (evaluate_over g v t s ws) (evaluate_over g v t (rewriting s) ws')
+  rewriting-demand3 ws ws' same = go (passes (table_refusal t)) refl
     where
-      go : (b : Bool) → passes (tableRefusal t) ≡ b
-          → Demand3 g v t s (rewriting s) (length ws) (evaluateOver g v t s ws) (evaluateOver g v t (rewriting s) ws')
+      go : (b : Bool) → passes (table_refusal t) ≡ b
+          → Demand3 g v t s (rewriting s) (length ws) (evaluate_over g v t s ws) (evaluate_over g v t (rewriting s) ws')
       go true e =
-          let table = eqb-true (tableRefusal t).number 0 e in
+          let table = eqb-true (table_refusal t).number 0 e in
           rw (
             evaluate-checked g v t s ws (check-passes t s (query-passes s z) table),
             evaluate-checked g v t (rewriting s) ws' (check-passes t (rewriting s) (rewriting-passes s z) table),
-            queryNode-rewriting s z,
+            query_node-rewriting s z,
             ← same,
           )
           (answers-demand3 (length ws) table)
       go false e =
-          let refused = eqb-false (tableRefusal t).number 0 e in
+          let refused = eqb-false (table_refusal t).number 0 e in
           let first = check-refuses t s refused in
           let second = check-refuses t (rewriting s) refused in
           rw (
@@ -157,14 +157,14 @@ module _ (g : Aggregate) (sound : SoundAggregate g) (v : View) (t s : List ℕ) 
 
 -- for any sound aggregate, one for the two evaluations, and any view
 pub demand3-over : (g : Aggregate) → SoundAggregate g → (v : View) (t s out ws ws' : List ℕ) → Accepted s out → length ws ≡ length ws'
-    → Demand3 g v t s (written s out) (length ws) (evaluateOver g v t s ws) (evaluateOver g v t (written s out) ws')
+    → Demand3 g v t s (written s out) (length ws) (evaluate_over g v t s ws) (evaluate_over g v t (written s out) ws')
 demand3-over g sound v t s out ws ws' a same =
     rw (accepted-written s out a) (rewriting-demand3 g sound v t s (accepted-passes s out a) ws ws' same)
 
 -- on the calls, for every table, query and output, either choice of an aggregate, one for the two evaluations, every two row spaces of one
 -- length and any two tallies
 pub demand3 : (t s out : List ℕ) (g : Aggregation) (ws ws' : List ℕ) (a a' : Tally) → Accepted s out → length ws ≡ length ws'
-    → Demand3 (aggregate g) (wholeTable t) t s (written s out) (length ws)
+    → Demand3 (aggregate g) (whole_table t) t s (written s out) (length ws)
     (evaluate t s g ws a).evaluated (evaluate t (written s out) g ws' a').evaluated
 demand3 t s out g ws ws' a a' accepted same =
-    demand3-over (aggregate g) (aggregate-sound g) (wholeTable t) t s out ws ws' accepted same
+    demand3-over (aggregate g) (aggregate-sound g) (whole_table t) t s out ws ws' accepted same

@@ -1,5 +1,5 @@
--- Laws of the functions on lists (specs/Lists.antt): tests; what holds of every element; allPass and anyPass; keepIf, consIf and only_if;
--- map and concatMap; a part of a slice.
+-- Laws of the functions on lists (specs/Lists.antt): tests; what holds of every element; all_pass and any_pass; keep_if, cons_if and only_if;
+-- map and concat_map; a part of a slice.
 -- Laws of length, take, drop, set and the like are the library's (lib.ListN, lib.Seq).
 -- Assumes nothing.
 use mathlib.Core.Path.{◌≡◌, refl, sym, ap, ◌∙◌}
@@ -13,7 +13,7 @@ use borrow.Author.Tests.{eqb-true, eqb-false, eq-eqb}
 use lib.Dec.{eqb}
 use lib.ListN.{length, take, drop, get_or, length-append, length-drop}
 use lib.Seq.{take_all}
-use Rattle.tsparql.specs.Lists.{Every, consIf, only_if, keepIf, allPass, anyPass, concatMap, up_from}
+use Rattle.tsparql.specs.Lists.{Every, cons_if, only_if, keep_if, all_pass, any_pass, concat_map, up_from}
 
 -- ---- tests
 
@@ -70,17 +70,17 @@ module _ {A : Type 0} where
   every-parts P [] ys e = (tt, e)
   every-parts P (x ∷ xs) ys e = let parts = every-parts P xs ys e.1 in ((e.0, parts.0), parts.1)
 
-  pub every-consIf : (P : A → Type 0) (b : Bool) (x : A) (xs : List A) → P x → Every P xs → Every P (consIf b x xs)
-  every-consIf P true x xs h e = (h, e)
-  every-consIf P false x xs h e = e
+  pub every-cons_if : (P : A → Type 0) (b : Bool) (x : A) (xs : List A) → P x → Every P xs → Every P (cons_if b x xs)
+  every-cons_if P true x xs h e = (h, e)
+  every-cons_if P false x xs h e = e
 
-  pub every-onlyIf : (P : A → Type 0) (b : Bool) (xs : List A) → (b ≡ true → Every P xs) → Every P (only_if b xs)
-  every-onlyIf P true xs e = e refl
-  every-onlyIf P false xs e = tt
+  pub every-only_if : (P : A → Type 0) (b : Bool) (xs : List A) → (b ≡ true → Every P xs) → Every P (only_if b xs)
+  every-only_if P true xs e = e refl
+  every-only_if P false xs e = tt
 
-  pub every-keepIf : (P : A → Type 0) (p : A → Bool) (xs : List A) → Every P xs → Every P (keepIf p xs)
-  every-keepIf P p [] e = tt
-  every-keepIf P p (x ∷ xs) e = every-consIf P (p x) x (keepIf p xs) e.0 (every-keepIf P p xs e.1)
+  pub every-keep_if : (P : A → Type 0) (p : A → Bool) (xs : List A) → Every P xs → Every P (keep_if p xs)
+  every-keep_if P p [] e = tt
+  every-keep_if P p (x ∷ xs) e = every-cons_if P (p x) x (keep_if p xs) e.0 (every-keep_if P p xs e.1)
 
   -- of the element at a place, and of every element by its place
   pub every-at : (P : A → Type 0) (xs : List A) (i : ℕ) (d : A) → i < length xs → Every P xs → P (get_or xs i d)
@@ -103,235 +103,235 @@ module _ {A B : Type 0} where
   every_map P f [] e = tt
   every_map P f (x ∷ xs) e = (e.0, every_map P f xs e.1)
 
-  pub every-concatMap : (P : B → Type 0) (f : A → List B) (xs : List A) → Every (λ x. Every P (f x)) xs → Every P (concatMap f xs)
-  every-concatMap P f [] e = tt
-  every-concatMap P f (x ∷ xs) e = every_append P (f x) (concatMap f xs) e.0 (every-concatMap P f xs e.1)
+  pub every-concat_map : (P : B → Type 0) (f : A → List B) (xs : List A) → Every (λ x. Every P (f x)) xs → Every P (concat_map f xs)
+  every-concat_map P f [] e = tt
+  every-concat_map P f (x ∷ xs) e = every_append P (f x) (concat_map f xs) e.0 (every-concat_map P f xs e.1)
 
 -- what holds of n numbers from i on
-pub every-upFrom : (P : ℕ → Type 0) (i n : ℕ) → ((v : ℕ) → v < i + n → P v) → Every P (up_from i n)
-every-upFrom P i zero h = tt
-every-upFrom P i (suc n) h = (h i (omega arith), every-upFrom P (suc i) n (λ v l. h v (omega arith)))
+pub every-up_from : (P : ℕ → Type 0) (i n : ℕ) → ((v : ℕ) → v < i + n → P v) → Every P (up_from i n)
+every-up_from P i zero h = tt
+every-up_from P i (suc n) h = (h i (omega arith), every-up_from P (suc i) n (λ v l. h v (omega arith)))
 
--- ---- allPass and anyPass
+-- ---- all_pass and any_pass
 
 module _ {A : Type 0} where
-  pub allPass-every : (p : A → Bool) (xs : List A) → Every (λ x. p x ≡ true) xs → allPass p xs ≡ true
-  allPass-every p [] e = refl
-  allPass-every p (x ∷ xs) e = and_both e.0 (allPass-every p xs e.1)
+  pub all_pass-every : (p : A → Bool) (xs : List A) → Every (λ x. p x ≡ true) xs → all_pass p xs ≡ true
+  all_pass-every p [] e = refl
+  all_pass-every p (x ∷ xs) e = and_both e.0 (all_pass-every p xs e.1)
 
-  pub allPass-passes : (p : A → Bool) (xs : List A) → allPass p xs ≡ true → Every (λ x. p x ≡ true) xs
-  allPass-passes p [] e = tt
-  allPass-passes p (x ∷ xs) e = (and_left (p x) (allPass p xs) e, allPass-passes p xs (and_right (p x) (allPass p xs) e))
+  pub all_pass-passes : (p : A → Bool) (xs : List A) → all_pass p xs ≡ true → Every (λ x. p x ≡ true) xs
+  all_pass-passes p [] e = tt
+  all_pass-passes p (x ∷ xs) e = (and_left (p x) (all_pass p xs) e, all_pass-passes p xs (and_right (p x) (all_pass p xs) e))
 
   -- two tests that agree on every element
-  pub allPass-cong : (p q : A → Bool) (xs : List A) → Every (λ x. p x ≡ q x) xs → allPass p xs ≡ allPass q xs
-  allPass-cong p q [] e = refl
-  allPass-cong p q (x ∷ xs) e = rw (e.0, allPass-cong p q xs e.1)
+  pub all_pass-cong : (p q : A → Bool) (xs : List A) → Every (λ x. p x ≡ q x) xs → all_pass p xs ≡ all_pass q xs
+  all_pass-cong p q [] e = refl
+  all_pass-cong p q (x ∷ xs) e = rw (e.0, all_pass-cong p q xs e.1)
 
-  pub allPass-append : (p : A → Bool) (xs ys : List A) → allPass p (xs ++ ys) ≡ allPass p xs && allPass p ys
-  allPass-append p [] ys = refl
-  allPass-append p (x ∷ xs) ys =
-      ap (λ (b : Bool). p x && b) (allPass-append p xs ys) ∙ sym (and_assoc (p x) (allPass p xs) (allPass p ys))
+  pub all_pass-append : (p : A → Bool) (xs ys : List A) → all_pass p (xs ++ ys) ≡ all_pass p xs && all_pass p ys
+  all_pass-append p [] ys = refl
+  all_pass-append p (x ∷ xs) ys =
+      ap (λ (b : Bool). p x && b) (all_pass-append p xs ys) ∙ sym (and_assoc (p x) (all_pass p xs) (all_pass p ys))
 
   -- two tests are one
-  pub allPass-and : (p q : A → Bool) (xs : List A) → allPass (λ x. p x && q x) xs ≡ allPass p xs && allPass q xs
-  allPass-and p q [] = refl
-  allPass-and p q (x ∷ xs) = rw (allPass-and p q xs) (and-interchange (p x) (q x) (allPass p xs) (allPass q xs))
+  pub all_pass-and : (p q : A → Bool) (xs : List A) → all_pass (λ x. p x && q x) xs ≡ all_pass p xs && all_pass q xs
+  all_pass-and p q [] = refl
+  all_pass-and p q (x ∷ xs) = rw (all_pass-and p q xs) (and-interchange (p x) (q x) (all_pass p xs) (all_pass q xs))
 
   -- a test that is two tests on every element, the first of which comes to b
-  pub allPass-two : (p q r : A → Bool) (b : Bool) (xs : List A) → Every (λ x. p x ≡ q x && r x) xs → allPass q xs ≡ b
-      → allPass p xs ≡ b && allPass r xs
-  allPass-two p q r b xs e h =
-      allPass-cong p (λ x. q x && r x) xs e ∙ allPass-and q r xs ∙ ap (λ (t : Bool). t && allPass r xs) h
+  pub all_pass-two : (p q r : A → Bool) (b : Bool) (xs : List A) → Every (λ x. p x ≡ q x && r x) xs → all_pass q xs ≡ b
+      → all_pass p xs ≡ b && all_pass r xs
+  all_pass-two p q r b xs e h =
+      all_pass-cong p (λ x. q x && r x) xs e ∙ all_pass-and q r xs ∙ ap (λ (t : Bool). t && all_pass r xs) h
 
-  allPass-consIf : (p : A → Bool) (b : Bool) (x : A) (xs : List A) → allPass p (consIf b x xs) ≡ (not b || p x) && allPass p xs
-  allPass-consIf p true x xs = refl
-  allPass-consIf p false x xs = refl
+  all_pass-cons_if : (p : A → Bool) (b : Bool) (x : A) (xs : List A) → all_pass p (cons_if b x xs) ≡ (not b || p x) && all_pass p xs
+  all_pass-cons_if p true x xs = refl
+  all_pass-cons_if p false x xs = refl
 
   -- a test on those that pass another
-  pub allPass-keepIf : (p q : A → Bool) (xs : List A) → allPass p (keepIf q xs) ≡ allPass (λ x. not (q x) || p x) xs
-  allPass-keepIf p q [] = refl
-  allPass-keepIf p q (x ∷ xs) =
-      allPass-consIf p (q x) x (keepIf q xs) ∙ ap (λ (b : Bool). (not (q x) || p x) && b) (allPass-keepIf p q xs)
+  pub all_pass-keep_if : (p q : A → Bool) (xs : List A) → all_pass p (keep_if q xs) ≡ all_pass (λ x. not (q x) || p x) xs
+  all_pass-keep_if p q [] = refl
+  all_pass-keep_if p q (x ∷ xs) =
+      all_pass-cons_if p (q x) x (keep_if q xs) ∙ ap (λ (b : Bool). (not (q x) || p x) && b) (all_pass-keep_if p q xs)
 
-  pub anyPass-append : (p : A → Bool) (xs ys : List A) → anyPass p (xs ++ ys) ≡ anyPass p xs || anyPass p ys
-  anyPass-append p [] ys = refl
-  anyPass-append p (x ∷ xs) ys =
-      ap (λ (b : Bool). p x || b) (anyPass-append p xs ys) ∙ sym (or_assoc (p x) (anyPass p xs) (anyPass p ys))
+  pub any_pass-append : (p : A → Bool) (xs ys : List A) → any_pass p (xs ++ ys) ≡ any_pass p xs || any_pass p ys
+  any_pass-append p [] ys = refl
+  any_pass-append p (x ∷ xs) ys =
+      ap (λ (b : Bool). p x || b) (any_pass-append p xs ys) ∙ sym (or_assoc (p x) (any_pass p xs) (any_pass p ys))
 
   -- none passes
-  pub anyPass-none : (p : A → Bool) (xs : List A) → Every (λ x. p x ≡ false) xs → anyPass p xs ≡ false
-  anyPass-none p [] e = refl
-  anyPass-none p (x ∷ xs) e = rw e.0 (anyPass-none p xs e.1)
+  pub any_pass-none : (p : A → Bool) (xs : List A) → Every (λ x. p x ≡ false) xs → any_pass p xs ≡ false
+  any_pass-none p [] e = refl
+  any_pass-none p (x ∷ xs) e = rw e.0 (any_pass-none p xs e.1)
 
-  pub anyPass-fails : (p : A → Bool) (xs : List A) → anyPass p xs ≡ false → Every (λ x. p x ≡ false) xs
-  anyPass-fails p [] e = tt
-  anyPass-fails p (x ∷ xs) e = go (p x) refl e (anyPass-fails p xs)
+  pub any_pass-fails : (p : A → Bool) (xs : List A) → any_pass p xs ≡ false → Every (λ x. p x ≡ false) xs
+  any_pass-fails p [] e = tt
+  any_pass-fails p (x ∷ xs) e = go (p x) refl e (any_pass-fails p xs)
     where
-      go : (b : Bool) → p x ≡ b → b || anyPass p xs ≡ false → (anyPass p xs ≡ false → Every (λ y. p y ≡ false) xs)
+      go : (b : Bool) → p x ≡ b → b || any_pass p xs ≡ false → (any_pass p xs ≡ false → Every (λ y. p y ≡ false) xs)
           → (p x ≡ false) × Every (λ y. p y ≡ false) xs
       go true f e k = (f ∙ e, k (cc e))
       go false f e k = (f, k e)
 
   -- one passes
-  pub anyPass-at : (p : A → Bool) (xs : List A) (i : ℕ) (d : A) → i < length xs → p (get_or xs i d) ≡ true → anyPass p xs ≡ true
-  anyPass-at p [] i d h e = absurd (omega arith)
-  anyPass-at p (x ∷ xs) zero d h e = rw e
-  anyPass-at p (x ∷ xs) (suc i) d h e = rw (anyPass-at p xs i d (omega arith) e) (or-true (p x))
+  pub any_pass-at : (p : A → Bool) (xs : List A) (i : ℕ) (d : A) → i < length xs → p (get_or xs i d) ≡ true → any_pass p xs ≡ true
+  any_pass-at p [] i d h e = absurd (omega arith)
+  any_pass-at p (x ∷ xs) zero d h e = rw e
+  any_pass-at p (x ∷ xs) (suc i) d h e = rw (any_pass-at p xs i d (omega arith) e) (or-true (p x))
 
 -- a test that fails for one of n numbers from i on
-pub allPass-fails : (p : ℕ → Bool) (i n m : ℕ) → i ≤ m → m < i + n → p m ≡ false → allPass p (up_from i n) ≡ false
-allPass-fails p i zero m h k e = absurd (omega arith)
-allPass-fails p i (suc n) m h k e = by (eqb i m) refl (λ l. allPass-fails p (suc i) n m l (omega arith) e)
+pub all_pass-fails : (p : ℕ → Bool) (i n m : ℕ) → i ≤ m → m < i + n → p m ≡ false → all_pass p (up_from i n) ≡ false
+all_pass-fails p i zero m h k e = absurd (omega arith)
+all_pass-fails p i (suc n) m h k e = by (eqb i m) refl (λ l. all_pass-fails p (suc i) n m l (omega arith) e)
   where
-    by : (t : Bool) → eqb i m ≡ t → (suc i ≤ m → allPass p (up_from (suc i) n) ≡ false) → p i && allPass p (up_from (suc i) n) ≡ false
+    by : (t : Bool) → eqb i m ≡ t → (suc i ≤ m → all_pass p (up_from (suc i) n) ≡ false) → p i && all_pass p (up_from (suc i) n) ≡ false
     by true d again = rw (eqb-true i m d, e)
     by false d again = let z = eqb-false i m d in rw (again (omega arith)) (and-false (p i))
 
 -- a test of one of n numbers from i on
-pub allPass-only : (i n m : ℕ) (b : Bool) → i ≤ m → m < i + n → allPass (λ v. not (eqb v m) || b) (up_from i n) ≡ b
-allPass-only i n m true h k =
-    allPass-every (λ v. not (eqb v m) || true) (up_from i n) (every_of (λ v. or-true (not (eqb v m))) (up_from i n))
-allPass-only i n m false h k = allPass-fails (λ v. not (eqb v m) || false) i n m h k (rw (eq-eqb m m refl))
+pub all_pass-only : (i n m : ℕ) (b : Bool) → i ≤ m → m < i + n → all_pass (λ v. not (eqb v m) || b) (up_from i n) ≡ b
+all_pass-only i n m true h k =
+    all_pass-every (λ v. not (eqb v m) || true) (up_from i n) (every_of (λ v. or-true (not (eqb v m))) (up_from i n))
+all_pass-only i n m false h k = all_pass-fails (λ v. not (eqb v m) || false) i n m h k (rw (eq-eqb m m refl))
 
--- ---- keepIf, consIf, only_if
+-- ---- keep_if, cons_if, only_if
 
 module _ {A : Type 0} where
-  pub consIf-append : (b : Bool) (x : A) (xs ys : List A) → consIf b x xs ++ ys ≡ consIf b x (xs ++ ys)
-  consIf-append true x xs ys = refl
-  consIf-append false x xs ys = refl
+  pub cons_if-append : (b : Bool) (x : A) (xs ys : List A) → cons_if b x xs ++ ys ≡ cons_if b x (xs ++ ys)
+  cons_if-append true x xs ys = refl
+  cons_if-append false x xs ys = refl
 
-  pub keepIf-append : (p : A → Bool) (xs ys : List A) → keepIf p (xs ++ ys) ≡ keepIf p xs ++ keepIf p ys
-  keepIf-append p [] ys = refl
-  keepIf-append p (x ∷ xs) ys =
-      ap (consIf (p x) x) (keepIf-append p xs ys) ∙ sym (consIf-append (p x) x (keepIf p xs) (keepIf p ys))
+  pub keep_if-append : (p : A → Bool) (xs ys : List A) → keep_if p (xs ++ ys) ≡ keep_if p xs ++ keep_if p ys
+  keep_if-append p [] ys = refl
+  keep_if-append p (x ∷ xs) ys =
+      ap (cons_if (p x) x) (keep_if-append p xs ys) ∙ sym (cons_if-append (p x) x (keep_if p xs) (keep_if p ys))
 
-  pub keepIf-consIf : (p : A → Bool) (b : Bool) (x : A) (xs : List A) → keepIf p (consIf b x xs) ≡ consIf (b && p x) x (keepIf p xs)
-  keepIf-consIf p true x xs = refl
-  keepIf-consIf p false x xs = refl
+  pub keep_if-cons_if : (p : A → Bool) (b : Bool) (x : A) (xs : List A) → keep_if p (cons_if b x xs) ≡ cons_if (b && p x) x (keep_if p xs)
+  keep_if-cons_if p true x xs = refl
+  keep_if-cons_if p false x xs = refl
 
-  pub keepIf-onlyIf : (p : A → Bool) (b : Bool) (xs : List A) → keepIf p (only_if b xs) ≡ only_if b (keepIf p xs)
-  keepIf-onlyIf p true xs = refl
-  keepIf-onlyIf p false xs = refl
+  pub keep_if-only_if : (p : A → Bool) (b : Bool) (xs : List A) → keep_if p (only_if b xs) ≡ only_if b (keep_if p xs)
+  keep_if-only_if p true xs = refl
+  keep_if-only_if p false xs = refl
 
   -- two tests are one
-  pub keepIf-keepIf : (p q : A → Bool) (xs : List A) → keepIf p (keepIf q xs) ≡ keepIf (λ x. q x && p x) xs
-  keepIf-keepIf p q [] = refl
-  keepIf-keepIf p q (x ∷ xs) = keepIf-consIf p (q x) x (keepIf q xs) ∙ ap (consIf (q x && p x) x) (keepIf-keepIf p q xs)
+  pub keep_if-keep_if : (p q : A → Bool) (xs : List A) → keep_if p (keep_if q xs) ≡ keep_if (λ x. q x && p x) xs
+  keep_if-keep_if p q [] = refl
+  keep_if-keep_if p q (x ∷ xs) = keep_if-cons_if p (q x) x (keep_if q xs) ∙ ap (cons_if (q x && p x) x) (keep_if-keep_if p q xs)
 
   -- two tests that agree on every element keep the same
-  pub keepIf-cong : (p q : A → Bool) (xs : List A) → Every (λ x. p x ≡ q x) xs → keepIf p xs ≡ keepIf q xs
-  keepIf-cong p q [] e = refl
-  keepIf-cong p q (x ∷ xs) e = rw (e.0, keepIf-cong p q xs e.1)
+  pub keep_if-cong : (p q : A → Bool) (xs : List A) → Every (λ x. p x ≡ q x) xs → keep_if p xs ≡ keep_if q xs
+  keep_if-cong p q [] e = refl
+  keep_if-cong p q (x ∷ xs) e = rw (e.0, keep_if-cong p q xs e.1)
 
-  pub keepIf-comm : (p q : A → Bool) (xs : List A) → keepIf p (keepIf q xs) ≡ keepIf q (keepIf p xs)
-  keepIf-comm p q xs =
-      keepIf-keepIf p q xs
-      ∙ keepIf-cong (λ x. q x && p x) (λ x. p x && q x) xs (every_of (λ x. and_comm (q x) (p x)) xs)
-      ∙ sym (keepIf-keepIf q p xs)
+  pub keep_if-comm : (p q : A → Bool) (xs : List A) → keep_if p (keep_if q xs) ≡ keep_if q (keep_if p xs)
+  keep_if-comm p q xs =
+      keep_if-keep_if p q xs
+      ∙ keep_if-cong (λ x. q x && p x) (λ x. p x && q x) xs (every_of (λ x. and_comm (q x) (p x)) xs)
+      ∙ sym (keep_if-keep_if q p xs)
 
   -- a test that does not look at the element
-  pub keepIf-and : (b : Bool) (p : A → Bool) (xs : List A) → keepIf (λ x. b && p x) xs ≡ only_if b (keepIf p xs)
-  keepIf-and true p xs = refl
-  keepIf-and false p [] = refl
-  keepIf-and false p (x ∷ xs) = keepIf-and false p xs
+  pub keep_if-and : (b : Bool) (p : A → Bool) (xs : List A) → keep_if (λ x. b && p x) xs ≡ only_if b (keep_if p xs)
+  keep_if-and true p xs = refl
+  keep_if-and false p [] = refl
+  keep_if-and false p (x ∷ xs) = keep_if-and false p xs
 
   -- where a test implies b
-  pub keepIf-under : (b : Bool) (p : A → Bool) (xs : List A) → Every (λ x. p x ≡ b && p x) xs → keepIf p xs ≡ only_if b (keepIf p xs)
-  keepIf-under b p xs e = keepIf-cong p (λ x. b && p x) xs e ∙ keepIf-and b p xs
+  pub keep_if-under : (b : Bool) (p : A → Bool) (xs : List A) → Every (λ x. p x ≡ b && p x) xs → keep_if p xs ≡ only_if b (keep_if p xs)
+  keep_if-under b p xs e = keep_if-cong p (λ x. b && p x) xs e ∙ keep_if-and b p xs
 
   -- what is kept passes the test
-  pub keepIf-passes : (p : A → Bool) (xs : List A) → Every (λ x. p x ≡ true) (keepIf p xs)
-  keepIf-passes p [] = tt
-  keepIf-passes p (x ∷ xs) = at (p x) refl (keepIf-passes p xs)
+  pub keep_if-passes : (p : A → Bool) (xs : List A) → Every (λ x. p x ≡ true) (keep_if p xs)
+  keep_if-passes p [] = tt
+  keep_if-passes p (x ∷ xs) = at (p x) refl (keep_if-passes p xs)
     where
-      at : (b : Bool) → p x ≡ b → Every (λ y. p y ≡ true) (keepIf p xs) → Every (λ y. p y ≡ true) (consIf b x (keepIf p xs))
+      at : (b : Bool) → p x ≡ b → Every (λ y. p y ≡ true) (keep_if p xs) → Every (λ y. p y ≡ true) (cons_if b x (keep_if p xs))
       at true e h = (e, h)
       at false e h = h
 
   -- a test that no element passes
-  pub keepIf-none : (p : A → Bool) (xs : List A) → Every (λ x. p x ≡ false) xs → keepIf p xs ≡ []
-  keepIf-none p [] e = refl
-  keepIf-none p (x ∷ xs) e = rw (e.0, keepIf-none p xs e.1)
+  pub keep_if-none : (p : A → Bool) (xs : List A) → Every (λ x. p x ≡ false) xs → keep_if p xs ≡ []
+  keep_if-none p [] e = refl
+  keep_if-none p (x ∷ xs) e = rw (e.0, keep_if-none p xs e.1)
 
-  pub length-onlyIf : (b : Bool) (xs : List A) → length (only_if b xs) ≤ length xs
-  length-onlyIf true xs = le_refl (length xs)
-  length-onlyIf false xs = zero-le
+  pub length-only_if : (b : Bool) (xs : List A) → length (only_if b xs) ≤ length xs
+  length-only_if true xs = le_refl (length xs)
+  length-only_if false xs = zero-le
 
-  pub length-consIf : (b : Bool) (x : A) (xs : List A) → length (consIf b x xs) ≤ suc (length xs)
-  length-consIf true x xs = le_refl (suc (length xs))
-  length-consIf false x xs = le_step (le_refl (length xs))
+  pub length-cons_if : (b : Bool) (x : A) (xs : List A) → length (cons_if b x xs) ≤ suc (length xs)
+  length-cons_if true x xs = le_refl (suc (length xs))
+  length-cons_if false x xs = le_step (le_refl (length xs))
 
-  pub length-keepIf : (p : A → Bool) (xs : List A) → length (keepIf p xs) ≤ length xs
-  length-keepIf p [] = zero-le
-  length-keepIf p (x ∷ xs) = le_trans (length-consIf (p x) x (keepIf p xs)) (suc-le-suc (length-keepIf p xs))
+  pub length-keep_if : (p : A → Bool) (xs : List A) → length (keep_if p xs) ≤ length xs
+  length-keep_if p [] = zero-le
+  length-keep_if p (x ∷ xs) = le_trans (length-cons_if (p x) x (keep_if p xs)) (suc-le-suc (length-keep_if p xs))
 
--- ---- map and concatMap
+-- ---- map and concat_map
 
 -- element v of what f makes of n numbers from i on
-pub getD-map-upFrom : {A : Type 0} (f : ℕ → A) (i n v : ℕ) (d : A) → v < n → get_or (map f (up_from i n)) v d ≡ f (i + v)
-getD-map-upFrom f i zero v d h = absurd (omega arith)
-getD-map-upFrom f i (suc n) zero d h = let e : i ≡ i + 0 = omega arith in ap f e
-getD-map-upFrom f i (suc n) (suc v) d h =
+pub get_d-map-up_from : {A : Type 0} (f : ℕ → A) (i n v : ℕ) (d : A) → v < n → get_or (map f (up_from i n)) v d ≡ f (i + v)
+get_d-map-up_from f i zero v d h = absurd (omega arith)
+get_d-map-up_from f i (suc n) zero d h = let e : i ≡ i + 0 = omega arith in ap f e
+get_d-map-up_from f i (suc n) (suc v) d h =
     let e : suc i + v ≡ i + suc v = omega arith in
-    getD-map-upFrom f (suc i) n v d (omega arith) ∙ ap f e
+    get_d-map-up_from f (suc i) n v d (omega arith) ∙ ap f e
 
 module _ {A B : Type 0} where
-  pub map-consIf : (f : A → B) (b : Bool) (x : A) (xs : List A) → map f (consIf b x xs) ≡ consIf b (f x) (map f xs)
-  map-consIf f true x xs = refl
-  map-consIf f false x xs = refl
+  pub map-cons_if : (f : A → B) (b : Bool) (x : A) (xs : List A) → map f (cons_if b x xs) ≡ cons_if b (f x) (map f xs)
+  map-cons_if f true x xs = refl
+  map-cons_if f false x xs = refl
 
-  pub map-onlyIf : (f : A → B) (b : Bool) (xs : List A) → map f (only_if b xs) ≡ only_if b (map f xs)
-  map-onlyIf f true xs = refl
-  map-onlyIf f false xs = refl
+  pub map-only_if : (f : A → B) (b : Bool) (xs : List A) → map f (only_if b xs) ≡ only_if b (map f xs)
+  map-only_if f true xs = refl
+  map-only_if f false xs = refl
 
-  pub keepIf-map : (p : B → Bool) (f : A → B) (xs : List A) → keepIf p (map f xs) ≡ map f (keepIf (λ x. p (f x)) xs)
-  keepIf-map p f [] = refl
-  keepIf-map p f (x ∷ xs) =
-      ap (consIf (p (f x)) (f x)) (keepIf-map p f xs) ∙ sym (map-consIf f (p (f x)) x (keepIf (λ y. p (f y)) xs))
+  pub keep_if-map : (p : B → Bool) (f : A → B) (xs : List A) → keep_if p (map f xs) ≡ map f (keep_if (λ x. p (f x)) xs)
+  keep_if-map p f [] = refl
+  keep_if-map p f (x ∷ xs) =
+      ap (cons_if (p (f x)) (f x)) (keep_if-map p f xs) ∙ sym (map-cons_if f (p (f x)) x (keep_if (λ y. p (f y)) xs))
 
-  pub anyPass-map : (p : B → Bool) (f : A → B) (xs : List A) → anyPass p (map f xs) ≡ anyPass (λ x. p (f x)) xs
-  anyPass-map p f [] = refl
-  anyPass-map p f (x ∷ xs) = ap (λ (b : Bool). p (f x) || b) (anyPass-map p f xs)
+  pub any_pass-map : (p : B → Bool) (f : A → B) (xs : List A) → any_pass p (map f xs) ≡ any_pass (λ x. p (f x)) xs
+  any_pass-map p f [] = refl
+  any_pass-map p f (x ∷ xs) = ap (λ (b : Bool). p (f x) || b) (any_pass-map p f xs)
 
-  pub concatMap-append : (f : A → List B) (xs ys : List A) → concatMap f (xs ++ ys) ≡ concatMap f xs ++ concatMap f ys
-  concatMap-append f [] ys = refl
-  concatMap-append f (x ∷ xs) ys =
-      ap (λ (r : List B). f x ++ r) (concatMap-append f xs ys) ∙ sym (append_assoc (f x) (concatMap f xs) (concatMap f ys))
+  pub concat_map-append : (f : A → List B) (xs ys : List A) → concat_map f (xs ++ ys) ≡ concat_map f xs ++ concat_map f ys
+  concat_map-append f [] ys = refl
+  concat_map-append f (x ∷ xs) ys =
+      ap (λ (r : List B). f x ++ r) (concat_map-append f xs ys) ∙ sym (append_assoc (f x) (concat_map f xs) (concat_map f ys))
 
-  pub concatMap-consIf : (f : A → List B) (b : Bool) (x : A) (xs : List A)
-      → concatMap f (consIf b x xs) ≡ only_if b (f x) ++ concatMap f xs
-  concatMap-consIf f true x xs = refl
-  concatMap-consIf f false x xs = refl
+  pub concat_map-cons_if : (f : A → List B) (b : Bool) (x : A) (xs : List A)
+      → concat_map f (cons_if b x xs) ≡ only_if b (f x) ++ concat_map f xs
+  concat_map-cons_if f true x xs = refl
+  concat_map-cons_if f false x xs = refl
 
-  pub keepIf-concatMap : (p : B → Bool) (f : A → List B) (xs : List A) → keepIf p (concatMap f xs) ≡ concatMap (λ x. keepIf p (f x)) xs
-  keepIf-concatMap p f [] = refl
-  keepIf-concatMap p f (x ∷ xs) =
-      keepIf-append p (f x) (concatMap f xs) ∙ ap (λ (r : List B). keepIf p (f x) ++ r) (keepIf-concatMap p f xs)
+  pub keep_if-concat_map : (p : B → Bool) (f : A → List B) (xs : List A) → keep_if p (concat_map f xs) ≡ concat_map (λ x. keep_if p (f x)) xs
+  keep_if-concat_map p f [] = refl
+  keep_if-concat_map p f (x ∷ xs) =
+      keep_if-append p (f x) (concat_map f xs) ∙ ap (λ (r : List B). keep_if p (f x) ++ r) (keep_if-concat_map p f xs)
 
   -- two functions that agree on every element, or everywhere
-  pub concatMap-cong : (f g : A → List B) (xs : List A) → Every (λ x. f x ≡ g x) xs → concatMap f xs ≡ concatMap g xs
-  concatMap-cong f g [] e = refl
-  concatMap-cong f g (x ∷ xs) e = rw (e.0, concatMap-cong f g xs e.1)
+  pub concat_map-cong : (f g : A → List B) (xs : List A) → Every (λ x. f x ≡ g x) xs → concat_map f xs ≡ concat_map g xs
+  concat_map-cong f g [] e = refl
+  concat_map-cong f g (x ∷ xs) e = rw (e.0, concat_map-cong f g xs e.1)
 
-  pub concatMap-same : (f g : A → List B) (xs : List A) → ((x : A) → f x ≡ g x) → concatMap f xs ≡ concatMap g xs
-  concatMap-same f g xs e = concatMap-cong f g xs (every_of e xs)
+  pub concat_map-same : (f g : A → List B) (xs : List A) → ((x : A) → f x ≡ g x) → concat_map f xs ≡ concat_map g xs
+  concat_map-same f g xs e = concat_map-cong f g xs (every_of e xs)
 
   pub map-cong : (f g : A → B) (xs : List A) → Every (λ x. f x ≡ g x) xs → map f xs ≡ map g xs
   map-cong f g [] e = refl
   map-cong f g (x ∷ xs) e = rw (e.0, map-cong f g xs e.1)
 
-  pub length-concatMap-keepIf : (f : A → List B) (p : A → Bool) (xs : List A)
-      → length (concatMap f (keepIf p xs)) ≤ length (concatMap f xs)
-  length-concatMap-keepIf f p [] = zero-le
-  length-concatMap-keepIf f p (x ∷ xs) =
-      rw (concatMap-consIf, length-append (only_if (p x) (f x)), length-append (f x))
-      (add-le-add (length-onlyIf (p x) (f x)) (length-concatMap-keepIf f p xs))
+  pub length-concat_map-keep_if : (f : A → List B) (p : A → Bool) (xs : List A)
+      → length (concat_map f (keep_if p xs)) ≤ length (concat_map f xs)
+  length-concat_map-keep_if f p [] = zero-le
+  length-concat_map-keep_if f p (x ∷ xs) =
+      rw (concat_map-cons_if, length-append (only_if (p x) (f x)), length-append (f x))
+      (add-le-add (length-only_if (p x) (f x)) (length-concat_map-keep_if f p xs))
 
 module _ {A B C : Type 0} where
-  pub map-concatMap : (g : B → C) (f : A → List B) (xs : List A) → map g (concatMap f xs) ≡ concatMap (λ x. map g (f x)) xs
-  map-concatMap g f [] = refl
-  map-concatMap g f (x ∷ xs) = map-append g (f x) (concatMap f xs) ∙ ap (λ (r : List C). map g (f x) ++ r) (map-concatMap g f xs)
+  pub map-concat_map : (g : B → C) (f : A → List B) (xs : List A) → map g (concat_map f xs) ≡ concat_map (λ x. map g (f x)) xs
+  map-concat_map g f [] = refl
+  map-concat_map g f (x ∷ xs) = map-append g (f x) (concat_map f xs) ∙ ap (λ (r : List C). map g (f x) ++ r) (map-concat_map g f xs)
 
 -- ---- parts of a slice
 

@@ -10,36 +10,36 @@ use native.Mathlib.Omega.{arith}
 use lib.Dec.{eqb}
 use lib.ListN.{length}
 use borrow.Author.Tests.{eqb-true}
-use Rattle.tsparql.specs.Lists.{Every, consIf, only_if, keepIf, allPass, anyPass, concatMap}
+use Rattle.tsparql.specs.Lists.{Every, cons_if, only_if, keep_if, all_pass, any_pass, concat_map}
 use Rattle.tsparql.specs.Values.{Trust, Cell, free, term, trusted, Row, cell_at, variables}
-use Rattle.tsparql.specs.Values.{isFree, sameTrust, sameCell}
-use Rattle.tsparql.specs.Query.{Slot, aTerm, aVariable, Pattern}
+use Rattle.tsparql.specs.Values.{is_free, same_trust, same_cell}
+use Rattle.tsparql.specs.Query.{Slot, a_term, a_variable, Pattern}
 use Rattle.tsparql.specs.Table.{Fact}
-use Rattle.tsparql.specs.PatternSets.{Aggregate, setRows}
-use Rattle.tsparql.specs.Tuples.{tuples, FilledSlot, filledSlots, termStands, termsStand, isVariable, termsFor}
-use Rattle.tsparql.specs.Tuples.{allSame, fits, firstTerm, filledCells, tupleRow, tupleRows}
-use Rattle.tsparql.specs.Check.{slotVariables, variablesOf}
-use Rattle.tsparql.specs.Cardinality.{sameCells, sameRow, cardinality, countIf}
-use Rattle.tsparql.specs.Cardinality.{slotCell, becomes, becomesRecord, isSolution, subgraph}
-use Rattle.tsparql.specs.Cardinality.{setCardinality, SameRecords, SetAggregate}
+use Rattle.tsparql.specs.PatternSets.{Aggregate, set_rows}
+use Rattle.tsparql.specs.Tuples.{tuples, FilledSlot, filled_slots, term_stands, terms_stand, is_variable, terms_for}
+use Rattle.tsparql.specs.Tuples.{all_same, fits, first_term, filled_cells, tuple_row, tuple_rows}
+use Rattle.tsparql.specs.Check.{slot_variables, variables_of}
+use Rattle.tsparql.specs.Cardinality.{same_cells, same_row, cardinality, count_if}
+use Rattle.tsparql.specs.Cardinality.{slot_cell, becomes, becomes_record, is_solution, subgraph}
+use Rattle.tsparql.specs.Cardinality.{set_cardinality, SameRecords, SetAggregate}
 use Rattle.tsparql.proofs.ListLaws.{and_left, and_right, and-three, and-regroup, and-interchange, test-eq, every_of, every-weaken}
-use Rattle.tsparql.proofs.ListLaws.{every-parts, every_map, every-concatMap}
-use Rattle.tsparql.proofs.ListLaws.{allPass-every, allPass-passes, allPass-cong}
-use Rattle.tsparql.proofs.ListLaws.{allPass-append, allPass-and, allPass-two, allPass-only, allPass-keepIf}
-use Rattle.tsparql.proofs.ListLaws.{anyPass-append}
-use Rattle.tsparql.proofs.ListLaws.{keepIf-keepIf, keepIf-cong, keepIf-and, keepIf-none, keepIf-map}
-use Rattle.tsparql.proofs.ListLaws.{keepIf-concatMap, concatMap-same, map-cong, map-onlyIf, getD-map-upFrom}
+use Rattle.tsparql.proofs.ListLaws.{every-parts, every_map, every-concat_map}
+use Rattle.tsparql.proofs.ListLaws.{all_pass-every, all_pass-passes, all_pass-cong}
+use Rattle.tsparql.proofs.ListLaws.{all_pass-append, all_pass-and, all_pass-two, all_pass-only, all_pass-keep_if}
+use Rattle.tsparql.proofs.ListLaws.{any_pass-append}
+use Rattle.tsparql.proofs.ListLaws.{keep_if-keep_if, keep_if-cong, keep_if-and, keep_if-none, keep_if-map}
+use Rattle.tsparql.proofs.ListLaws.{keep_if-concat_map, concat_map-same, map-cong, map-only_if, get_d-map-up_from}
 use Rattle.tsparql.proofs.TableLaws.{Rising, key}
 use Rattle.tsparql.proofs.ChoiceLaws.{every-slot}
-use Rattle.tsparql.proofs.TupleLaws.{below16, map-cellAt, setRows-tuples}
-use Rattle.tsparql.proofs.Cardinalities.{sameCell-true, sameCell-refl, sameCells-true, sameCells-refl, cardinality-map}
-use Rattle.tsparql.proofs.GraphLaws.{rising-graph, graph-keepIf}
+use Rattle.tsparql.proofs.TupleLaws.{below16, map-cell_at, set_rows-tuples}
+use Rattle.tsparql.proofs.Cardinalities.{same_cell-true, same_cell-refl, same_cells-true, same_cells-refl, cardinality-map}
+use Rattle.tsparql.proofs.GraphLaws.{rising-graph, graph-keep_if}
 
 -- ---- one variable
 
 -- the cell is each of the terms
-abbrev hasTerms : Cell → List ℕ → Bool
-hasTerms c bs = allPass (λ b. sameCell c (term b)) bs
+abbrev has_terms : Cell → List ℕ → Bool
+has_terms c bs = all_pass (λ b. same_cell c (term b)) bs
 
 -- the list has an element
 abbrev some : {A : Type 0} → List A → Bool
@@ -47,115 +47,115 @@ some [] = false
 some (x ∷ xs) = true
 
 -- one term for the variable, which its cell is: the cell is all the terms, and free where there is none
-allSame-cell : (c : Cell) (bs : List ℕ) → allSame bs && sameCell c (firstTerm bs) ≡ hasTerms c bs && (isFree c || some bs)
-allSame-cell free [] = refl
-allSame-cell (term a) [] = refl
-allSame-cell (trusted t) [] = refl
-allSame-cell c (b ∷ bs) = at (sameCell c (term b)) refl
+all_same-cell : (c : Cell) (bs : List ℕ) → all_same bs && same_cell c (first_term bs) ≡ has_terms c bs && (is_free c || some bs)
+all_same-cell free [] = refl
+all_same-cell (term a) [] = refl
+all_same-cell (trusted t) [] = refl
+all_same-cell c (b ∷ bs) = at (same_cell c (term b)) refl
   where
-    at : (t : Bool) → sameCell c (term b) ≡ t → allPass (eqb b) bs && t ≡ (t && hasTerms c bs) && (isFree c || true)
-    at true e = rw (sameCell-true c (term b) e, and_comm (allPass (eqb b) bs) true)
-    at false e = and_comm (allPass (eqb b) bs) false
+    at : (t : Bool) → same_cell c (term b) ≡ t → all_pass (eqb b) bs && t ≡ (t && has_terms c bs) && (is_free c || true)
+    at true e = rw (same_cell-true c (term b) e, and_comm (all_pass (eqb b) bs) true)
+    at false e = and_comm (all_pass (eqb b) bs) false
 
 -- ---- a tuple that gives the cells
 
 -- the slot's cell is the record's term
 abbrev says : List Cell → FilledSlot → Bool
-says cs x = sameCell (slotCell cs x.slot) (term x.value)
+says cs x = same_cell (slot_cell cs x.slot) (term x.value)
 
 -- the slots whose variables are below 16
 abbrev SlotsInRange : List FilledSlot → Type 0
-SlotsInRange xs = Every (λ x. Every (λ v. v < 16) (slotVariables x.slot)) xs
+SlotsInRange xs = Every (λ x. Every (λ v. v < 16) (slot_variables x.slot)) xs
 
 -- every cell is each of the terms that its variable gets
-abbrev haveTerms : List Cell → List FilledSlot → Bool
-haveTerms cs xs = allPass (λ v. hasTerms (cell_at cs v) (termsFor v xs)) variables
+abbrev have_terms : List Cell → List FilledSlot → Bool
+have_terms cs xs = all_pass (λ v. has_terms (cell_at cs v) (terms_for v xs)) variables
 
 -- a term more for the variable w, and what it asks of the variable v
-hasTerms-more : (cs : List Cell) (w b v : ℕ) (bs : List ℕ)
-    → hasTerms (cell_at cs v) (only_if (eqb v w) (b ∷ []) ++ bs)
-    ≡ (not (eqb v w) || sameCell (cell_at cs w) (term b)) && hasTerms (cell_at cs v) bs
-hasTerms-more cs w b v bs = at (eqb v w) refl
+has_terms-more : (cs : List Cell) (w b v : ℕ) (bs : List ℕ)
+    → has_terms (cell_at cs v) (only_if (eqb v w) (b ∷ []) ++ bs)
+    ≡ (not (eqb v w) || same_cell (cell_at cs w) (term b)) && has_terms (cell_at cs v) bs
+has_terms-more cs w b v bs = at (eqb v w) refl
   where
     at : (t : Bool) → eqb v w ≡ t
-        → hasTerms (cell_at cs v) (only_if t (b ∷ []) ++ bs) ≡ (not t || sameCell (cell_at cs w) (term b)) && hasTerms (cell_at cs v) bs
+        → has_terms (cell_at cs v) (only_if t (b ∷ []) ++ bs) ≡ (not t || same_cell (cell_at cs w) (term b)) && has_terms (cell_at cs v) bs
     at true e = rw (eqb-true v w e)
     at false e = refl
 
 -- by slots or by variables, it is the same that is asked
-says-terms : (cs : List Cell) (xs : List FilledSlot) → SlotsInRange xs → haveTerms cs xs && termsStand xs ≡ allPass (says cs) xs
+says-terms : (cs : List Cell) (xs : List FilledSlot) → SlotsInRange xs → have_terms cs xs && terms_stand xs ≡ all_pass (says cs) xs
 says-terms cs [] h = refl
 says-terms cs (x ∷ xs) h = at x.slot x.value h.0 (says-terms cs xs h.1)
   where
-    at : (s : Slot) (b : ℕ) → Every (λ v. v < 16) (slotVariables s) → haveTerms cs xs && termsStand xs ≡ allPass (says cs) xs
-        → allPass (λ v. hasTerms (cell_at cs v) (only_if (isVariable v s) (b ∷ []) ++ termsFor v xs)) variables
-        && (termStands s b && termsStand xs)
-        ≡ sameCell (slotCell cs s) (term b) && allPass (says cs) xs
-    at (aTerm a) b k later = rw (← later) (and-interchange true (haveTerms cs xs) (eqb a b) (termsStand xs))
-    at (aVariable w) b k later =
+    at : (s : Slot) (b : ℕ) → Every (λ v. v < 16) (slot_variables s) → have_terms cs xs && terms_stand xs ≡ all_pass (says cs) xs
+        → all_pass (λ v. has_terms (cell_at cs v) (only_if (is_variable v s) (b ∷ []) ++ terms_for v xs)) variables
+        && (term_stands s b && terms_stand xs)
+        ≡ same_cell (slot_cell cs s) (term b) && all_pass (says cs) xs
+    at (a_term a) b k later = rw (← later) (and-interchange true (have_terms cs xs) (eqb a b) (terms_stand xs))
+    at (a_variable w) b k later =
         rw (← later)
-        (ap (λ (t : Bool). t && termsStand xs)
-        (allPass-two (λ v. hasTerms (cell_at cs v) (only_if (eqb v w) (b ∷ []) ++ termsFor v xs)) (λ v. not (eqb v w) || q)
-        (λ v. hasTerms (cell_at cs v) (termsFor v xs)) q variables
-        (every_of (λ v. hasTerms-more cs w b v (termsFor v xs)) variables) (allPass-only 0 16 w q (omega arith) k.0))
-        ∙ and_assoc q (haveTerms cs xs) (termsStand xs))
+        (ap (λ (t : Bool). t && terms_stand xs)
+        (all_pass-two (λ v. has_terms (cell_at cs v) (only_if (eqb v w) (b ∷ []) ++ terms_for v xs)) (λ v. not (eqb v w) || q)
+        (λ v. has_terms (cell_at cs v) (terms_for v xs)) q variables
+        (every_of (λ v. has_terms-more cs w b v (terms_for v xs)) variables) (all_pass-only 0 16 w q (omega arith) k.0))
+        ∙ and_assoc q (have_terms cs xs) (terms_stand xs))
       where
         q : Bool
-        q = sameCell (cell_at cs w) (term b)
+        q = same_cell (cell_at cs w) (term b)
 
 -- to have these cells is to have each of them, and 16
-sameCells-variables : (cs : List Cell) (f : ℕ → Cell)
-    → sameCells cs (map f variables) ≡ eqb (length cs) 16 && allPass (λ v. sameCell (cell_at cs v) (f v)) variables
-sameCells-variables cs f = test-eq _ _ forth back
+same_cells-variables : (cs : List Cell) (f : ℕ → Cell)
+    → same_cells cs (map f variables) ≡ eqb (length cs) 16 && all_pass (λ v. same_cell (cell_at cs v) (f v)) variables
+same_cells-variables cs f = test-eq _ _ forth back
   where
     made : (v : ℕ) → v < 16 → cell_at (map f variables) v ≡ f v
-    made v h = getD-map-upFrom f 0 16 v free h ∙ rw (zero-add v)
+    made v h = get_d-map-up_from f 0 16 v free h ∙ rw (zero-add v)
 
-    forth : sameCells cs (map f variables) ≡ true
-        → eqb (length cs) 16 && allPass (λ v. sameCell (cell_at cs v) (f v)) variables ≡ true
+    forth : same_cells cs (map f variables) ≡ true
+        → eqb (length cs) 16 && all_pass (λ v. same_cell (cell_at cs v) (f v)) variables ≡ true
     forth e =
-        rw (sameCells-true cs (map f variables) e)
-        (allPass-every (λ v. sameCell (cell_at (map f variables) v) (f v)) variables
-        (every-weaken (λ v h. ap (λ (c : Cell). sameCell c (f v)) (made v h) ∙ sameCell-refl (f v)) variables below16))
+        rw (same_cells-true cs (map f variables) e)
+        (all_pass-every (λ v. same_cell (cell_at (map f variables) v) (f v)) variables
+        (every-weaken (λ v h. ap (λ (c : Cell). same_cell c (f v)) (made v h) ∙ same_cell-refl (f v)) variables below16))
 
-    back : eqb (length cs) 16 && allPass (λ v. sameCell (cell_at cs v) (f v)) variables ≡ true
-        → sameCells cs (map f variables) ≡ true
+    back : eqb (length cs) 16 && all_pass (λ v. same_cell (cell_at cs v) (f v)) variables ≡ true
+        → same_cells cs (map f variables) ≡ true
     back e =
         let long = eqb-true (length cs) 16 (and_left (eqb (length cs) 16) _ e) in
-        let each = allPass-passes (λ v. sameCell (cell_at cs v) (f v)) variables (and_right (eqb (length cs) 16) _ e) in
+        let each = all_pass-passes (λ v. same_cell (cell_at cs v) (f v)) variables (and_right (eqb (length cs) 16) _ e) in
         let same : cs ≡ map f variables =
-        map-cellAt cs long ∙ map-cong (cell_at cs) f variables (every-weaken (λ v k. sameCell-true (cell_at cs v) (f v) k) variables each) in
-        rw (← same) (sameCells-refl cs)
+        map-cell_at cs long ∙ map-cong (cell_at cs) f variables (every-weaken (λ v k. same_cell-true (cell_at cs v) (f v) k) variables each) in
+        rw (← same) (same_cells-refl cs)
 
 -- only variables with a term are set
-abbrev onlySet : List Cell → List FilledSlot → Bool
-onlySet cs xs = allPass (λ v. isFree (cell_at cs v) || some (termsFor v xs)) variables
+abbrev only_set : List Cell → List FilledSlot → Bool
+only_set cs xs = all_pass (λ v. is_free (cell_at cs v) || some (terms_for v xs)) variables
 
 -- a tuple fits and gives the cells just where the cells say its terms, and are free where it has none
 fits-says : (cs : List Cell) (xs : List FilledSlot) → SlotsInRange xs
-    → fits xs && sameCells cs (filledCells xs) ≡ (eqb (length cs) 16 && onlySet cs xs) && allPass (says cs) xs
+    → fits xs && same_cells cs (filled_cells xs) ≡ (eqb (length cs) 16 && only_set cs xs) && all_pass (says cs) xs
 fits-says cs xs h =
-    ap (λ (t : Bool). fits xs && t) (sameCells-variables cs (λ v. firstTerm (termsFor v xs)))
-    ∙ and-interchange (termsStand xs) one long gave
-    ∙ ap (λ (t : Bool). (termsStand xs && long) && t)
-    (sym (allPass-and (λ v. allSame (termsFor v xs)) (λ v. sameCell (cell_at cs v) (firstTerm (termsFor v xs))) variables)
-    ∙ allPass-cong (λ v. allSame (termsFor v xs) && sameCell (cell_at cs v) (firstTerm (termsFor v xs)))
-    (λ v. hasTerms (cell_at cs v) (termsFor v xs) && (isFree (cell_at cs v) || some (termsFor v xs))) variables
-    (every_of (λ v. allSame-cell (cell_at cs v) (termsFor v xs)) variables)
-    ∙ allPass-and (λ v. hasTerms (cell_at cs v) (termsFor v xs)) (λ v. isFree (cell_at cs v) || some (termsFor v xs)) variables
-    ∙ and_comm (haveTerms cs xs) (onlySet cs xs))
-    ∙ ap (λ (t : Bool). t && (onlySet cs xs && haveTerms cs xs)) (and_comm (termsStand xs) long)
-    ∙ and-interchange long (termsStand xs) (onlySet cs xs) (haveTerms cs xs)
-    ∙ ap (λ (t : Bool). (long && onlySet cs xs) && t) (and_comm (termsStand xs) (haveTerms cs xs) ∙ says-terms cs xs h)
+    ap (λ (t : Bool). fits xs && t) (same_cells-variables cs (λ v. first_term (terms_for v xs)))
+    ∙ and-interchange (terms_stand xs) one long gave
+    ∙ ap (λ (t : Bool). (terms_stand xs && long) && t)
+    (sym (all_pass-and (λ v. all_same (terms_for v xs)) (λ v. same_cell (cell_at cs v) (first_term (terms_for v xs))) variables)
+    ∙ all_pass-cong (λ v. all_same (terms_for v xs) && same_cell (cell_at cs v) (first_term (terms_for v xs)))
+    (λ v. has_terms (cell_at cs v) (terms_for v xs) && (is_free (cell_at cs v) || some (terms_for v xs))) variables
+    (every_of (λ v. all_same-cell (cell_at cs v) (terms_for v xs)) variables)
+    ∙ all_pass-and (λ v. has_terms (cell_at cs v) (terms_for v xs)) (λ v. is_free (cell_at cs v) || some (terms_for v xs)) variables
+    ∙ and_comm (have_terms cs xs) (only_set cs xs))
+    ∙ ap (λ (t : Bool). t && (only_set cs xs && have_terms cs xs)) (and_comm (terms_stand xs) long)
+    ∙ and-interchange long (terms_stand xs) (only_set cs xs) (have_terms cs xs)
+    ∙ ap (λ (t : Bool). (long && only_set cs xs) && t) (and_comm (terms_stand xs) (have_terms cs xs) ∙ says-terms cs xs h)
   where
     one : Bool
-    one = allPass (λ v. allSame (termsFor v xs)) variables
+    one = all_pass (λ v. all_same (terms_for v xs)) variables
 
     long : Bool
     long = eqb (length cs) 16
 
     gave : Bool
-    gave = allPass (λ v. sameCell (cell_at cs v) (firstTerm (termsFor v xs))) variables
+    gave = all_pass (λ v. same_cell (cell_at cs v) (first_term (terms_for v xs))) variables
 
 -- ---- the only such tuple
 
@@ -164,37 +164,37 @@ some-append [] ws = refl
 some-append (v ∷ vs) ws = refl
 
 -- a slot gives a variable a term where the variable stands there
-slot-some : (v : ℕ) (s : Slot) (b : ℕ) → some (only_if (isVariable v s) (b ∷ [])) ≡ anyPass (eqb v) (slotVariables s)
-slot-some v (aTerm a) b = refl
-slot-some v (aVariable w) b = at (eqb v w)
+slot-some : (v : ℕ) (s : Slot) (b : ℕ) → some (only_if (is_variable v s) (b ∷ [])) ≡ any_pass (eqb v) (slot_variables s)
+slot-some v (a_term a) b = refl
+slot-some v (a_variable w) b = at (eqb v w)
   where
     at : (t : Bool) → some (only_if t (b ∷ [])) ≡ t || false
     at true = refl
     at false = refl
 
 -- a variable gets a term just where it stands in the patterns
-termsFor-some : (v : ℕ) (ps : List Pattern) (us : List Fact) → length us ≡ length ps
-    → some (termsFor v (filledSlots ps us)) ≡ anyPass (eqb v) (concatMap variablesOf ps)
-termsFor-some v [] us e = refl
-termsFor-some v (p ∷ ps) [] e = absurd (omega arith)
-termsFor-some v (p ∷ ps) (f ∷ us) e = at (termsFor-some v ps us (omega arith))
+terms_for-some : (v : ℕ) (ps : List Pattern) (us : List Fact) → length us ≡ length ps
+    → some (terms_for v (filled_slots ps us)) ≡ any_pass (eqb v) (concat_map variables_of ps)
+terms_for-some v [] us e = refl
+terms_for-some v (p ∷ ps) [] e = absurd (omega arith)
+terms_for-some v (p ∷ ps) (f ∷ us) e = at (terms_for-some v ps us (omega arith))
   where
     given : Slot → ℕ → List ℕ
-    given s b = only_if (isVariable v s) (b ∷ [])
+    given s b = only_if (is_variable v s) (b ∷ [])
 
     stands : Slot → Bool
-    stands s = anyPass (eqb v) (slotVariables s)
+    stands s = any_pass (eqb v) (slot_variables s)
 
     rest : List ℕ
-    rest = termsFor v (filledSlots ps us)
+    rest = terms_for v (filled_slots ps us)
 
     others : Bool
-    others = anyPass (eqb v) (concatMap variablesOf ps)
+    others = any_pass (eqb v) (concat_map variables_of ps)
 
-    at : some rest ≡ anyPass (eqb v) (concatMap variablesOf ps)
-        → some (termsFor v (filledSlots (p ∷ ps) (f ∷ us))) ≡ anyPass (eqb v) (variablesOf p ++ concatMap variablesOf ps)
+    at : some rest ≡ any_pass (eqb v) (concat_map variables_of ps)
+        → some (terms_for v (filled_slots (p ∷ ps) (f ∷ us))) ≡ any_pass (eqb v) (variables_of p ++ concat_map variables_of ps)
     at later =
-        let vs = slotVariables p.predicate ++ slotVariables p.object in
+        let vs = slot_variables p.predicate ++ slot_variables p.object in
         rw (
           some-append (given p.subject f.subject) (given p.predicate f.predicate ++ (given p.object f.object ++ rest)),
           some-append (given p.predicate f.predicate) (given p.object f.object ++ rest),
@@ -203,9 +203,9 @@ termsFor-some v (p ∷ ps) (f ∷ us) e = at (termsFor-some v ps us (omega arith
           slot-some v p.predicate f.predicate,
           slot-some v p.object f.object,
           later,
-          anyPass-append (eqb v) (variablesOf p) (concatMap variablesOf ps),
-          anyPass-append (eqb v) (slotVariables p.subject) vs,
-          anyPass-append (eqb v) (slotVariables p.predicate) (slotVariables p.object),
+          any_pass-append (eqb v) (variables_of p) (concat_map variables_of ps),
+          any_pass-append (eqb v) (slot_variables p.subject) vs,
+          any_pass-append (eqb v) (slot_variables p.predicate) (slot_variables p.object),
         )
         (sym (or_assoc (stands p.subject) (stands p.predicate || stands p.object) others
         ∙ ap (λ (t : Bool). stands p.subject || t) (or_assoc (stands p.predicate) (stands p.object) others)))
@@ -215,31 +215,31 @@ tuples-length : (fs : List Fact) (n : ℕ) → Every (λ us. length us ≡ n) (t
 unfolding tuples
 tuples-length fs zero = (refl, tt)
 tuples-length fs (suc n) =
-    every-concatMap (λ us. length us ≡ suc n) (λ f. map (λ us. f ∷ us) (tuples fs n)) fs
+    every-concat_map (λ us. length us ≡ suc n) (λ f. map (λ us. f ∷ us) (tuples fs n)) fs
     (every_of (λ f. every_map (λ us. length us ≡ suc n) (λ us. f ∷ us) (tuples fs n)
     (every-weaken (λ us e. ap suc e) (tuples fs n) (tuples-length fs n))) fs)
 
 -- at most one element passes, where those that pass have the same value, and values rise
-keepIf-once : {A : Type 0} (k : A → ℕ) (p : A → Bool) (xs : List A) → ((x y : A) → p x ≡ true → p y ≡ true → k x ≡ k y) → Rising k xs
-    → length (keepIf p xs) ≤ 1
-keepIf-once k p [] same r = zero-le
-keepIf-once {A = A} k p (x ∷ xs) same r = at (p x) refl (keepIf-once k p xs same r.1)
+keep_if-once : {A : Type 0} (k : A → ℕ) (p : A → Bool) (xs : List A) → ((x y : A) → p x ≡ true → p y ≡ true → k x ≡ k y) → Rising k xs
+    → length (keep_if p xs) ≤ 1
+keep_if-once k p [] same r = zero-le
+keep_if-once {A = A} k p (x ∷ xs) same r = at (p x) refl (keep_if-once k p xs same r.1)
   where
     fails : p x ≡ true → (y : A) → k x < k y → (b : Bool) → p y ≡ b → b ≡ false
     fails d y l true e = absurd (omega (arith, same x y d e))
     fails d y l false e = refl
 
-    at : (b : Bool) → p x ≡ b → length (keepIf p xs) ≤ 1 → length (consIf b x (keepIf p xs)) ≤ 1
-    at true e h = rw (keepIf-none p xs (every-weaken (λ y l. fails e y l (p y) refl) xs r.0)) (omega arith)
+    at : (b : Bool) → p x ≡ b → length (keep_if p xs) ≤ 1 → length (cons_if b x (keep_if p xs)) ≤ 1
+    at true e h = rw (keep_if-none p xs (every-weaken (λ y l. fails e y l (p y) refl) xs r.0)) (omega arith)
     at false e h = h
 
 -- the slots of a pattern that becomes the triple of a fact
 pub becomes-parts : (cs : List Cell) (p : Pattern) (f : Fact) → becomes cs p f ≡ true
-    → (sameCell (slotCell cs p.subject) (term f.subject) ≡ true)
-    × (sameCell (slotCell cs p.predicate) (term f.predicate) ≡ true) × (sameCell (slotCell cs p.object) (term f.object) ≡ true)
+    → (same_cell (slot_cell cs p.subject) (term f.subject) ≡ true)
+    × (same_cell (slot_cell cs p.predicate) (term f.predicate) ≡ true) × (same_cell (slot_cell cs p.object) (term f.object) ≡ true)
 becomes-parts cs p f h =
-    and-three (sameCell (slotCell cs p.subject) (term f.subject)) (sameCell (slotCell cs p.predicate) (term f.predicate))
-    (sameCell (slotCell cs p.object) (term f.object)) h
+    and-three (same_cell (slot_cell cs p.subject) (term f.subject)) (same_cell (slot_cell cs p.predicate) (term f.predicate))
+    (same_cell (slot_cell cs p.object) (term f.object)) h
 
 -- a pattern becomes one triple
 becomes-key : (cs : List Cell) (p : Pattern) (f g : Fact) → becomes cs p f ≡ true → becomes cs p g ≡ true → key f ≡ key g
@@ -254,109 +254,109 @@ becomes-key cs p f g d e =
     )
   where
     at : Slot → ℕ → Bool
-    at s b = sameCell (slotCell cs s) (term b)
+    at s b = same_cell (slot_cell cs s) (term b)
 
     one : (s : Slot) (a b : ℕ) → at s a ≡ true → at s b ≡ true → a ≡ b
     one s a b h k =
-        let same : term a ≡ term b = sym (sameCell-true (slotCell cs s) (term a) h) ∙ sameCell-true (slotCell cs s) (term b) k in cc
+        let same : term a ≡ term b = sym (same_cell-true (slot_cell cs s) (term a) h) ∙ same_cell-true (slot_cell cs s) (term b) k in cc
 
 -- the records that make one element each, where they pass a test and all do
-concatMap-passing : {A B : Type 0} (p : A → Bool) (b : Bool) (h : A → B) (xs : List A)
-    → concatMap (λ x. only_if (p x) (only_if b (h x ∷ []))) xs ≡ only_if b (map h (keepIf p xs))
-concatMap-passing p true h [] = refl
-concatMap-passing p false h [] = refl
-concatMap-passing p b h (x ∷ xs) = at (p x) b (concatMap-passing p b h xs)
+concat_map-passing : {A B : Type 0} (p : A → Bool) (b : Bool) (h : A → B) (xs : List A)
+    → concat_map (λ x. only_if (p x) (only_if b (h x ∷ []))) xs ≡ only_if b (map h (keep_if p xs))
+concat_map-passing p true h [] = refl
+concat_map-passing p false h [] = refl
+concat_map-passing p b h (x ∷ xs) = at (p x) b (concat_map-passing p b h xs)
   where
-    at : (t d : Bool) → concatMap (λ y. only_if (p y) (only_if d (h y ∷ []))) xs ≡ only_if d (map h (keepIf p xs))
-        → only_if t (only_if d (h x ∷ [])) ++ concatMap (λ y. only_if (p y) (only_if d (h y ∷ []))) xs
-        ≡ only_if d (map h (consIf t x (keepIf p xs)))
+    at : (t d : Bool) → concat_map (λ y. only_if (p y) (only_if d (h y ∷ []))) xs ≡ only_if d (map h (keep_if p xs))
+        → only_if t (only_if d (h x ∷ [])) ++ concat_map (λ y. only_if (p y) (only_if d (h y ∷ []))) xs
+        ≡ only_if d (map h (cons_if t x (keep_if p xs)))
     at true true e = ap (λ (r : List _). h x ∷ r) e
     at true false e = e
     at false d e = e
 
-onlyIf-none : {A : Type 0} (b : Bool) → only_if {A = A} b [] ≡ []
-onlyIf-none true = refl
-onlyIf-none false = refl
+only_if-none : {A : Type 0} (b : Bool) → only_if {A = A} b [] ≡ []
+only_if-none true = refl
+only_if-none false = refl
 
-some-keepIf : {A : Type 0} (p : A → Bool) (xs : List A) → some (keepIf p xs) ≡ anyPass p xs
-some-keepIf p [] = refl
-some-keepIf p (x ∷ xs) = at (p x) (some-keepIf p xs)
+some-keep_if : {A : Type 0} (p : A → Bool) (xs : List A) → some (keep_if p xs) ≡ any_pass p xs
+some-keep_if p [] = refl
+some-keep_if p (x ∷ xs) = at (p x) (some-keep_if p xs)
   where
-    at : (t : Bool) → some (keepIf p xs) ≡ anyPass p xs → some (consIf t x (keepIf p xs)) ≡ t || anyPass p xs
+    at : (t : Bool) → some (keep_if p xs) ≡ any_pass p xs → some (cons_if t x (keep_if p xs)) ≡ t || any_pass p xs
     at true e = refl
     at false e = e
 
 -- the records that the patterns become, pattern by pattern
 abbrev instances : List Fact → List Pattern → List Cell → List Fact
-instances fs ps cs = concatMap (λ p. keepIf (becomes cs p) fs) ps
+instances fs ps cs = concat_map (λ p. keep_if (becomes cs p) fs) ps
 
 -- of all tuples, at most one gives every pattern the record that it becomes
 tuples-says : (fs : List Fact) (cs : List Cell) → Rising key fs → (ps : List Pattern)
-    → keepIf (λ us. allPass (says cs) (filledSlots ps us)) (tuples fs (length ps))
-    ≡ only_if (allPass (becomesRecord fs cs) ps) (instances fs ps cs ∷ [])
+    → keep_if (λ us. all_pass (says cs) (filled_slots ps us)) (tuples fs (length ps))
+    ≡ only_if (all_pass (becomes_record fs cs) ps) (instances fs ps cs ∷ [])
 unfolding tuples
 tuples-says fs cs r [] = refl
 tuples-says fs cs r (p ∷ ps) =
-    keepIf-concatMap test (λ f. map (λ us. f ∷ us) later) fs
-    ∙ concatMap-same (λ f. keepIf test (map (λ us. f ∷ us) later)) (λ f. only_if (becomes cs p f) (only_if all ((f ∷ rest) ∷ []))) fs
-    (λ f. byFact f (tuples-says fs cs r ps))
-    ∙ concatMap-passing (becomes cs p) all (λ f. f ∷ rest) fs
-    ∙ first (keepIf (becomes cs p) fs) (keepIf-once key (becomes cs p) fs (becomes-key cs p) r)
-    ∙ ap (λ (t : Bool). only_if (t && all) ((keepIf (becomes cs p) fs ++ rest) ∷ [])) (some-keepIf (becomes cs p) fs)
+    keep_if-concat_map test (λ f. map (λ us. f ∷ us) later) fs
+    ∙ concat_map-same (λ f. keep_if test (map (λ us. f ∷ us) later)) (λ f. only_if (becomes cs p f) (only_if all ((f ∷ rest) ∷ []))) fs
+    (λ f. by_fact f (tuples-says fs cs r ps))
+    ∙ concat_map-passing (becomes cs p) all (λ f. f ∷ rest) fs
+    ∙ first (keep_if (becomes cs p) fs) (keep_if-once key (becomes cs p) fs (becomes-key cs p) r)
+    ∙ ap (λ (t : Bool). only_if (t && all) ((keep_if (becomes cs p) fs ++ rest) ∷ [])) (some-keep_if (becomes cs p) fs)
   where
     later : List (List Fact)
     later = tuples fs (length ps)
 
     test : List Fact → Bool
-    test us = allPass (says cs) (filledSlots (p ∷ ps) us)
+    test us = all_pass (says cs) (filled_slots (p ∷ ps) us)
 
     all : Bool
-    all = allPass (becomesRecord fs cs) ps
+    all = all_pass (becomes_record fs cs) ps
 
     rest : List Fact
     rest = instances fs ps cs
 
     -- a tuple passes where its first record does, and then the others
-    onFirst : (f : Fact) (us : List Fact) → test (f ∷ us) ≡ becomes cs p f && allPass (says cs) (filledSlots ps us)
-    onFirst f us =
-        and-regroup (sameCell (slotCell cs p.subject) (term f.subject))
-        (sameCell (slotCell cs p.predicate) (term f.predicate)) (sameCell (slotCell cs p.object) (term f.object))
-        (allPass (says cs) (filledSlots ps us))
+    on_first : (f : Fact) (us : List Fact) → test (f ∷ us) ≡ becomes cs p f && all_pass (says cs) (filled_slots ps us)
+    on_first f us =
+        and-regroup (same_cell (slot_cell cs p.subject) (term f.subject))
+        (same_cell (slot_cell cs p.predicate) (term f.predicate)) (same_cell (slot_cell cs p.object) (term f.object))
+        (all_pass (says cs) (filled_slots ps us))
 
-    byFact : (f : Fact) → keepIf (λ us. allPass (says cs) (filledSlots ps us)) later ≡ only_if all (rest ∷ [])
-        → keepIf test (map (λ us. f ∷ us) later) ≡ only_if (becomes cs p f) (only_if all ((f ∷ rest) ∷ []))
-    byFact f e =
-        keepIf-map test (λ us. f ∷ us) later
+    by_fact : (f : Fact) → keep_if (λ us. all_pass (says cs) (filled_slots ps us)) later ≡ only_if all (rest ∷ [])
+        → keep_if test (map (λ us. f ∷ us) later) ≡ only_if (becomes cs p f) (only_if all ((f ∷ rest) ∷ []))
+    by_fact f e =
+        keep_if-map test (λ us. f ∷ us) later
         ∙ ap (map (λ us. f ∷ us))
-        (keepIf-cong _ (λ us. becomes cs p f && allPass (says cs) (filledSlots ps us)) later (every_of (onFirst f) later)
-        ∙ keepIf-and (becomes cs p f) (λ us. allPass (says cs) (filledSlots ps us)) later
+        (keep_if-cong _ (λ us. becomes cs p f && all_pass (says cs) (filled_slots ps us)) later (every_of (on_first f) later)
+        ∙ keep_if-and (becomes cs p f) (λ us. all_pass (says cs) (filled_slots ps us)) later
         ∙ ap (only_if (becomes cs p f)) e)
-        ∙ map-onlyIf (λ us. f ∷ us) (becomes cs p f) (only_if all (rest ∷ []))
-        ∙ ap (only_if (becomes cs p f)) (map-onlyIf (λ us. f ∷ us) all (rest ∷ []))
+        ∙ map-only_if (λ us. f ∷ us) (becomes cs p f) (only_if all (rest ∷ []))
+        ∙ ap (only_if (becomes cs p f)) (map-only_if (λ us. f ∷ us) all (rest ∷ []))
 
     first : (ks : List Fact) → length ks ≤ 1 → only_if all (map (λ f. f ∷ rest) ks) ≡ only_if (some ks && all) ((ks ++ rest) ∷ [])
-    first [] h = onlyIf-none all
+    first [] h = only_if-none all
     first (k ∷ []) h = refl
     first (k ∷ j ∷ ks) h = absurd (omega arith)
 
 -- ---- pattern sets
 
 -- the variables of the slots are those of the patterns
-slots-inRange : (ps : List Pattern) (us : List Fact) → Every (λ v. v < 16) (concatMap variablesOf ps) → SlotsInRange (filledSlots ps us)
-slots-inRange [] us h = tt
-slots-inRange (p ∷ ps) [] h = tt
-slots-inRange (p ∷ ps) (f ∷ us) h =
-    let parts = every-parts (λ v. v < 16) (variablesOf p) (concatMap variablesOf ps) h in
+slots-in_range : (ps : List Pattern) (us : List Fact) → Every (λ v. v < 16) (concat_map variables_of ps) → SlotsInRange (filled_slots ps us)
+slots-in_range [] us h = tt
+slots-in_range (p ∷ ps) [] h = tt
+slots-in_range (p ∷ ps) (f ∷ us) h =
+    let parts = every-parts (λ v. v < 16) (variables_of p) (concat_map variables_of ps) h in
     let slots = every-slot (λ v. v < 16) p parts.0 in
-    (slots.0, (slots.1, (slots.2, slots-inRange ps us parts.1)))
+    (slots.0, (slots.1, (slots.2, slots-in_range ps us parts.1)))
 
 -- how many elements pass four tests, the last of which looks at the element, of one element or none
 length-one : {A : Type 0} (l o b : Bool) (p : A → Bool) (x : A)
-    → length (keepIf p (only_if (l && o) (only_if b (x ∷ [])))) ≡ countIf (((l && b) && o) && p x) 1
+    → length (keep_if p (only_if (l && o) (only_if b (x ∷ [])))) ≡ count_if (((l && b) && o) && p x) 1
 length-one false o b p x = refl
 length-one true true true p x = at (p x)
   where
-    at : (t : Bool) → length (consIf t x []) ≡ countIf t 1
+    at : (t : Bool) → length (cons_if t x []) ≡ count_if t 1
     at true = refl
     at false = refl
 length-one true true false p x = refl
@@ -364,14 +364,14 @@ length-one true false true p x = refl
 length-one true false false p x = refl
 
 -- a test on what passes one of two
-allPass-either : {A : Type 0} (q a b : A → Bool) (xs : List A)
-    → allPass q (keepIf (λ x. a x || b x) xs) ≡ allPass q (keepIf a xs) && allPass q (keepIf b xs)
-allPass-either q a b xs =
-    allPass-keepIf q (λ x. a x || b x) xs
-    ∙ allPass-cong (λ x. not (a x || b x) || q x) (λ x. (not (a x) || q x) && (not (b x) || q x)) xs
+all_pass-either : {A : Type 0} (q a b : A → Bool) (xs : List A)
+    → all_pass q (keep_if (λ x. a x || b x) xs) ≡ all_pass q (keep_if a xs) && all_pass q (keep_if b xs)
+all_pass-either q a b xs =
+    all_pass-keep_if q (λ x. a x || b x) xs
+    ∙ all_pass-cong (λ x. not (a x || b x) || q x) (λ x. (not (a x) || q x) && (not (b x) || q x)) xs
     (every_of (λ x. at (a x) (b x) (q x)) xs)
-    ∙ allPass-and (λ x. not (a x) || q x) (λ x. not (b x) || q x) xs
-    ∙ sym (rw (allPass-keepIf q a xs, allPass-keepIf q b xs))
+    ∙ all_pass-and (λ x. not (a x) || q x) (λ x. not (b x) || q x) xs
+    ∙ sym (rw (all_pass-keep_if q a xs, all_pass-keep_if q b xs))
   where
     at : (a b q : Bool) → not (a || b) || q ≡ (not a || q) && (not b || q)
     at true true q = sym (and_self q)
@@ -380,55 +380,55 @@ allPass-either q a b xs =
 
 -- pattern by pattern they are the records of the subgraph
 instances-subgraph : (fs : List Fact) (ps : List Pattern) (cs : List Cell) → SameRecords (instances fs ps cs) (subgraph fs ps cs)
-instances-subgraph fs [] cs q = sym (ap (allPass q) (keepIf-none (λ f. false) fs (every_of (λ f. refl) fs)))
+instances-subgraph fs [] cs q = sym (ap (all_pass q) (keep_if-none (λ f. false) fs (every_of (λ f. refl) fs)))
 instances-subgraph fs (p ∷ ps) cs q =
-    allPass-append q (keepIf (becomes cs p) fs) (instances fs ps cs)
-    ∙ ap (λ (t : Bool). allPass q (keepIf (becomes cs p) fs) && t) (instances-subgraph fs ps cs q)
-    ∙ sym (allPass-either q (becomes cs p) (λ f. anyPass (λ r. becomes cs r f) ps) fs)
+    all_pass-append q (keep_if (becomes cs p) fs) (instances fs ps cs)
+    ∙ ap (λ (t : Bool). all_pass q (keep_if (becomes cs p) fs) && t) (instances-subgraph fs ps cs q)
+    ∙ sym (all_pass-either q (becomes cs p) (λ f. any_pass (λ r. becomes cs r f) ps) fs)
 
 -- over facts whose triples rise, a pattern set lists every solution once, and nothing else
 pub cardinality-set : (g : Aggregate) → SetAggregate g → (fs : List Fact) → Rising key fs → (ps : List Pattern)
-    → Every (λ v. v < 16) (concatMap variablesOf ps) → (r : Row) → cardinality (setRows g fs ps) r ≡ setCardinality g fs ps r
-unfolding tupleRows
+    → Every (λ v. v < 16) (concat_map variables_of ps) → (r : Row) → cardinality (set_rows g fs ps) r ≡ set_cardinality g fs ps r
+unfolding tuple_rows
 cardinality-set g set fs k ps h r =
-    ap (λ (xs : List Row). cardinality xs r) (setRows-tuples g fs ps)
-    ∙ cardinality-map (tupleRow g ps) (keepIf fit all) r
+    ap (λ (xs : List Row). cardinality xs r) (set_rows-tuples g fs ps)
+    ∙ cardinality-map (tuple_row g ps) (keep_if fit all) r
     ∙ ap length
-    (keepIf-keepIf (λ us. sameRow r (tupleRow g ps us)) fit all
-    ∙ keepIf-cong (λ us. fit us && sameRow r (tupleRow g ps us)) (λ us. ((long && others) && said us) && trusts us) all
+    (keep_if-keep_if (λ us. same_row r (tuple_row g ps us)) fit all
+    ∙ keep_if-cong (λ us. fit us && same_row r (tuple_row g ps us)) (λ us. ((long && others) && said us) && trusts us) all
     (every-weaken at all (tuples-length fs (length ps)))
-    ∙ sym (keepIf-keepIf trusts (λ us. (long && others) && said us) all)
-    ∙ ap (keepIf trusts) (keepIf-and (long && others) said all ∙ ap (only_if (long && others)) (tuples-says fs r.cells k ps)))
-    ∙ length-one long others (allPass (becomesRecord fs r.cells) ps) trusts (instances fs ps r.cells)
-    ∙ ap (λ (t : Trust). countIf (isSolution fs ps r.cells && sameTrust r.trust t) 1)
+    ∙ sym (keep_if-keep_if trusts (λ us. (long && others) && said us) all)
+    ∙ ap (keep_if trusts) (keep_if-and (long && others) said all ∙ ap (only_if (long && others)) (tuples-says fs r.cells k ps)))
+    ∙ length-one long others (all_pass (becomes_record fs r.cells) ps) trusts (instances fs ps r.cells)
+    ∙ ap (λ (t : Trust). count_if (is_solution fs ps r.cells && same_trust r.trust t) 1)
     (set (instances fs ps r.cells) (subgraph fs ps r.cells)
-    (graph-keepIf (λ f. anyPass (λ p. becomes r.cells p f) ps) fs (rising-graph fs k)) (instances-subgraph fs ps r.cells))
+    (graph-keep_if (λ f. any_pass (λ p. becomes r.cells p f) ps) fs (rising-graph fs k)) (instances-subgraph fs ps r.cells))
   where
     all : List (List Fact)
     all = tuples fs (length ps)
 
     fit : List Fact → Bool
-    fit us = fits (filledSlots ps us)
+    fit us = fits (filled_slots ps us)
 
     long : Bool
     long = eqb (length r.cells) 16
 
     others : Bool
-    others = allPass (λ v. isFree (cell_at r.cells v) || anyPass (eqb v) (concatMap variablesOf ps)) variables
+    others = all_pass (λ v. is_free (cell_at r.cells v) || any_pass (eqb v) (concat_map variables_of ps)) variables
 
     said : List Fact → Bool
-    said us = allPass (says r.cells) (filledSlots ps us)
+    said us = all_pass (says r.cells) (filled_slots ps us)
 
     trusts : List Fact → Bool
-    trusts us = sameTrust r.trust (g us)
+    trusts us = same_trust r.trust (g us)
 
     at : (us : List Fact) → length us ≡ length ps
-        → fit us && sameRow r (tupleRow g ps us) ≡ ((long && others) && said us) && trusts us
+        → fit us && same_row r (tuple_row g ps us) ≡ ((long && others) && said us) && trusts us
     at us e =
-        sym (and_assoc (fit us) (sameCells r.cells (filledCells (filledSlots ps us))) (trusts us))
+        sym (and_assoc (fit us) (same_cells r.cells (filled_cells (filled_slots ps us))) (trusts us))
         ∙ ap (λ (t : Bool). t && trusts us)
-        (fits-says r.cells (filledSlots ps us) (slots-inRange ps us h)
+        (fits-says r.cells (filled_slots ps us) (slots-in_range ps us h)
         ∙ ap (λ (t : Bool). (long && t) && said us)
-        (allPass-cong (λ v. isFree (cell_at r.cells v) || some (termsFor v (filledSlots ps us)))
-        (λ v. isFree (cell_at r.cells v) || anyPass (eqb v) (concatMap variablesOf ps)) variables
-        (every_of (λ v. ap (λ (t : Bool). isFree (cell_at r.cells v) || t) (termsFor-some v ps us e)) variables)))
+        (all_pass-cong (λ v. is_free (cell_at r.cells v) || some (terms_for v (filled_slots ps us)))
+        (λ v. is_free (cell_at r.cells v) || any_pass (eqb v) (concat_map variables_of ps)) variables
+        (every_of (λ v. ap (λ (t : Bool). is_free (cell_at r.cells v) || t) (terms_for-some v ps us e)) variables)))

@@ -1,12 +1,12 @@
 -- The check of a table and a query (document 01, "Check"): refusals 1 to 7 and their places, in its order.
 -- Where the first fault of a query is, refusal 6, is said by the readers (Reading). Assumes nothing.
 use Rattle.std.specs.Prelude.{◌≡◌, Bool, true, ◌||◌, not, cond, List, [], ◌∷◌, ◌++◌, map, ℕ, zero, suc, ◌+◌, ◌/◌, ◌%◌, eqb, ltb, length}
-use Rattle.tsparql.specs.Lists.{keepIf, concatMap}
-use Rattle.tsparql.specs.Query.{Slot, aTerm, aVariable, Pattern}
-use Rattle.tsparql.specs.Query.{Node, patternSet, join, leftJoin, union, filter, projectTrust, ensureTrust}
-use Rattle.tsparql.specs.Table.{recordLength, recordAt, fact_of, recordSound, below}
-use Rattle.tsparql.specs.Writing.{conditionBytes, nodeBytes}
-use Rattle.tsparql.specs.Reading.{Read, got, fault, readQuery}
+use Rattle.tsparql.specs.Lists.{keep_if, concat_map}
+use Rattle.tsparql.specs.Query.{Slot, a_term, a_variable, Pattern}
+use Rattle.tsparql.specs.Query.{Node, pattern_set, join, left_join, union, filter, project_trust, ensure_trust}
+use Rattle.tsparql.specs.Table.{record_length, record_at, fact_of, record_sound, below}
+use Rattle.tsparql.specs.Writing.{condition_bytes, node_bytes}
+use Rattle.tsparql.specs.Reading.{Read, got, fault, read_query}
 
 -- ---- refusals
 
@@ -18,12 +18,12 @@ pub record Refusal : Type 0 where
 abbrev pub refuse : ℕ → ℕ → Refusal
 refuse n p = record { number = n; place = p }
 
-abbrev pub noRefusal : Refusal
-noRefusal = refuse 0 0
+abbrev pub no_refusal : Refusal
+no_refusal = refuse 0 0
 
 -- this refusal where the test passes, else none
-abbrev pub refuseIf : Bool → ℕ → ℕ → Refusal
-refuseIf b n p = cond b (refuse n p) noRefusal
+abbrev pub refuse_if : Bool → ℕ → ℕ → Refusal
+refuse_if b n p = cond b (refuse n p) no_refusal
 
 -- no refusal applies
 abbrev pub passes : Refusal → Bool
@@ -40,29 +40,29 @@ or_else r s = cond (passes r) s r
 -- ---- the table: 1 to 4
 
 -- the most records of a table
-abbrev pub recordLimit : ℕ
-recordLimit = 65535
+abbrev pub record_limit : ℕ
+record_limit = 65535
 
 -- record i is above the record before it, if there is one
 abbrev pub rises : List ℕ → ℕ → Bool
 rises t zero = true
-rises t (suc i) = below (fact_of (recordAt t i)) (fact_of (recordAt t (suc i)))
+rises t (suc i) = below (fact_of (record_at t i)) (fact_of (record_at t (suc i)))
 
 -- 3, an unsound record; 4, one that is not above the record before it
-unfoldable pub recordRefusal : List ℕ → ℕ → Refusal
-recordRefusal t i = or_else (refuseIf (not (recordSound (recordAt t i))) 3 i) (refuseIf (not (rises t i)) 4 i)
+unfoldable pub record_refusal : List ℕ → ℕ → Refusal
+record_refusal t i = or_else (refuse_if (not (record_sound (record_at t i))) 3 i) (refuse_if (not (rises t i)) 4 i)
 
 -- the first refusal of n records from record i on
-unfoldable pub recordsRefusal : List ℕ → ℕ → ℕ → Refusal
-recordsRefusal t i zero = noRefusal
-recordsRefusal t i (suc n) = let later = recordsRefusal t (suc i) n in or_else (recordRefusal t i) later
+unfoldable pub records_refusal : List ℕ → ℕ → ℕ → Refusal
+records_refusal t i zero = no_refusal
+records_refusal t i (suc n) = let later = records_refusal t (suc i) n in or_else (record_refusal t i) later
 
 -- 1, then 2, then 3 and 4 record by record
-unfoldable pub tableRefusal : List ℕ → Refusal
-tableRefusal t =
-    let records = length t / recordLength in
-    or_else (refuseIf (not (eqb (length t % recordLength) 0)) 1 0)
-    (or_else (refuseIf (ltb recordLimit records) 2 0) (recordsRefusal t 0 records))
+unfoldable pub table_refusal : List ℕ → Refusal
+table_refusal t =
+    let records = length t / record_length in
+    or_else (refuse_if (not (eqb (length t % record_length) 0)) 1 0)
+    (or_else (refuse_if (ltb record_limit records) 2 0) (records_refusal t 0 records))
 
 -- ---- the variables of a query: 7
 
@@ -71,75 +71,75 @@ pub record TrustProjection : Type 0 where
   pub place : ℕ
   pub variable : ℕ
 
-abbrev pub projectedVariable : TrustProjection → ℕ
-projectedVariable p = p.variable
+abbrev pub projected_variable : TrustProjection → ℕ
+projected_variable p = p.variable
 
 -- the project trust nodes in prefix order, for a node that starts at a place
-unfoldable pub trustProjections : ℕ → Node → List TrustProjection
-trustProjections at (patternSet ps) = []
-trustProjections at (join x y) = trustProjections (at + 1) x ++ trustProjections (at + 1 + length (nodeBytes x)) y
-trustProjections at (leftJoin c x y) =
-    trustProjections (at + 1 + length (conditionBytes c)) x
-    ++ trustProjections (at + 1 + length (conditionBytes c) + length (nodeBytes x)) y
-trustProjections at (union x y) = trustProjections (at + 1) x ++ trustProjections (at + 1 + length (nodeBytes x)) y
-trustProjections at (filter c x) = trustProjections (at + 1 + length (conditionBytes c)) x
-trustProjections at (projectTrust v x) = record { place = at; variable = v } ∷ trustProjections (at + 1) x
-trustProjections at (ensureTrust l u x) = trustProjections (at + 4) x
+unfoldable pub trust_projections : ℕ → Node → List TrustProjection
+trust_projections at (pattern_set ps) = []
+trust_projections at (join x y) = trust_projections (at + 1) x ++ trust_projections (at + 1 + length (node_bytes x)) y
+trust_projections at (left_join c x y) =
+    trust_projections (at + 1 + length (condition_bytes c)) x
+    ++ trust_projections (at + 1 + length (condition_bytes c) + length (node_bytes x)) y
+trust_projections at (union x y) = trust_projections (at + 1) x ++ trust_projections (at + 1 + length (node_bytes x)) y
+trust_projections at (filter c x) = trust_projections (at + 1 + length (condition_bytes c)) x
+trust_projections at (project_trust v x) = record { place = at; variable = v } ∷ trust_projections (at + 1) x
+trust_projections at (ensure_trust l u x) = trust_projections (at + 4) x
 
-abbrev pub slotVariables : Slot → List ℕ
-slotVariables (aTerm a) = []
-slotVariables (aVariable v) = v ∷ []
+abbrev pub slot_variables : Slot → List ℕ
+slot_variables (a_term a) = []
+slot_variables (a_variable v) = v ∷ []
 
-abbrev pub variablesOf : Pattern → List ℕ
-variablesOf p = slotVariables p.subject ++ (slotVariables p.predicate ++ slotVariables p.object)
+abbrev pub variables_of : Pattern → List ℕ
+variables_of p = slot_variables p.subject ++ (slot_variables p.predicate ++ slot_variables p.object)
 
 -- the variables that stand in patterns, each as often as it does
-unfoldable pub patternVariables : Node → List ℕ
-patternVariables (patternSet ps) = concatMap variablesOf ps
-patternVariables (join x y) = patternVariables x ++ patternVariables y
-patternVariables (leftJoin c x y) = patternVariables x ++ patternVariables y
-patternVariables (union x y) = patternVariables x ++ patternVariables y
-patternVariables (filter c x) = patternVariables x
-patternVariables (projectTrust v x) = patternVariables x
-patternVariables (ensureTrust l u x) = patternVariables x
+unfoldable pub pattern_variables : Node → List ℕ
+pattern_variables (pattern_set ps) = concat_map variables_of ps
+pattern_variables (join x y) = pattern_variables x ++ pattern_variables y
+pattern_variables (left_join c x y) = pattern_variables x ++ pattern_variables y
+pattern_variables (union x y) = pattern_variables x ++ pattern_variables y
+pattern_variables (filter c x) = pattern_variables x
+pattern_variables (project_trust v x) = pattern_variables x
+pattern_variables (ensure_trust l u x) = pattern_variables x
 
 -- how often a number stands in a list
 abbrev pub occurrences : ℕ → List ℕ → ℕ
-occurrences v vs = length (keepIf (eqb v) vs)
+occurrences v vs = length (keep_if (eqb v) vs)
 
 -- a variable of the second list, project trust's, stands in the first, the patterns', or twice in the second
 abbrev pub clashing : List ℕ → List ℕ → ℕ → Bool
-clashing inPatterns inProjections v = ltb 0 (occurrences v inPatterns) || ltb 1 (occurrences v inProjections)
+clashing in_patterns in_projections v = ltb 0 (occurrences v in_patterns) || ltb 1 (occurrences v in_projections)
 
 abbrev pub clashes : Node → TrustProjection → Bool
-clashes q p = clashing (patternVariables q) (map projectedVariable (trustProjections 0 q)) p.variable
+clashes q p = clashing (pattern_variables q) (map projected_variable (trust_projections 0 q)) p.variable
 
 -- 7 at the first of the nodes
-abbrev pub firstClash : List TrustProjection → Refusal
-firstClash [] = noRefusal
-firstClash (p ∷ ps) = refuse 7 p.place
+abbrev pub first_clash : List TrustProjection → Refusal
+first_clash [] = no_refusal
+first_clash (p ∷ ps) = refuse 7 p.place
 
 -- 7 at the first clash
-unfoldable pub variablesRefusal : Node → Refusal
-variablesRefusal q = firstClash (keepIf (clashes q) (trustProjections 0 q))
+unfoldable pub variables_refusal : Node → Refusal
+variables_refusal q = first_clash (keep_if (clashes q) (trust_projections 0 q))
 
 -- ---- the query: 5 to 7
 
 -- 6 at the fault, else 7
-abbrev pub nodeRefusal : Read Node → Refusal
-nodeRefusal (got q n) = variablesRefusal q
-nodeRefusal (fault p) = refuse 6 p
+abbrev pub node_refusal : Read Node → Refusal
+node_refusal (got q n) = variables_refusal q
+node_refusal (fault p) = refuse 6 p
 
 -- 5 where the query is over the limit of the calling operation
-unfoldable pub queryRefusal : ℕ → List ℕ → Refusal
-queryRefusal limit s = or_else (refuseIf (ltb limit (length s)) 5 0) (nodeRefusal (readQuery s))
+unfoldable pub query_refusal : ℕ → List ℕ → Refusal
+query_refusal limit s = or_else (refuse_if (ltb limit (length s)) 5 0) (node_refusal (read_query s))
 
 -- the limit of check, evaluate and ceiling
-abbrev pub evaluateLimit : ℕ
-evaluateLimit = 5120
+abbrev pub evaluate_limit : ℕ
+evaluate_limit = 5120
 
 -- ---- the call
 
 -- check a table and a query; nothing is written
 unfoldable pub check : List ℕ → List ℕ → Refusal
-check t s = or_else (tableRefusal t) (queryRefusal evaluateLimit s)
+check t s = or_else (table_refusal t) (query_refusal evaluate_limit s)

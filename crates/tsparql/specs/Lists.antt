@@ -7,9 +7,9 @@ use Rattle.std.specs.Prelude.{Bool, true, false, ◌&&◌, ◌||◌, not, List, 
 
 module _ {A : Type 0} where
   -- x in front of xs where the test passed
-  abbrev pub consIf : Bool → A → List A → List A
-  consIf true x xs = x ∷ xs
-  consIf false x xs = xs
+  abbrev pub cons_if : Bool → A → List A → List A
+  cons_if true x xs = x ∷ xs
+  cons_if false x xs = xs
 
   -- the list where the test passed, and else nothing
   abbrev pub only_if : Bool → List A → List A
@@ -17,35 +17,35 @@ module _ {A : Type 0} where
   only_if false xs = []
 
   -- the elements that pass the test, in order
-  abbrev pub keepIf : (A → Bool) → List A → List A
-  keepIf p [] = []
-  keepIf p (x ∷ xs) = consIf (p x) x (keepIf p xs)
+  abbrev pub keep_if : (A → Bool) → List A → List A
+  keep_if p [] = []
+  keep_if p (x ∷ xs) = cons_if (p x) x (keep_if p xs)
 
   -- every element passes the test
-  abbrev pub allPass : (A → Bool) → List A → Bool
-  allPass p [] = true
-  allPass p (x ∷ xs) = p x && allPass p xs
+  abbrev pub all_pass : (A → Bool) → List A → Bool
+  all_pass p [] = true
+  all_pass p (x ∷ xs) = p x && all_pass p xs
 
   -- some element passes the test
-  abbrev pub anyPass : (A → Bool) → List A → Bool
-  anyPass p [] = false
-  anyPass p (x ∷ xs) = p x || anyPass p xs
+  abbrev pub any_pass : (A → Bool) → List A → Bool
+  any_pass p [] = false
+  any_pass p (x ∷ xs) = p x || any_pass p xs
 
   -- each element once, in order of first appearance; the test says which are the same
-  abbrev pub distinctBy : (A → A → Bool) → List A → List A
-  distinctBy same [] = []
-  distinctBy same (x ∷ xs) = x ∷ keepIf (λ y. not (same x y)) (distinctBy same xs)
+  abbrev pub distinct_by : (A → A → Bool) → List A → List A
+  distinct_by same [] = []
+  distinct_by same (x ∷ xs) = x ∷ keep_if (λ y. not (same x y)) (distinct_by same xs)
 
   -- the sum of what f gives
-  abbrev pub sumOver : List A → (A → ℕ) → ℕ
-  sumOver [] f = 0
-  sumOver (x ∷ xs) f = f x + sumOver xs f
+  abbrev pub sum_over : List A → (A → ℕ) → ℕ
+  sum_over [] f = 0
+  sum_over (x ∷ xs) f = f x + sum_over xs f
 
 module _ {A B : Type 0} where
   -- the lists that f makes of the elements, one after the other
-  abbrev pub concatMap : (A → List B) → List A → List B
-  concatMap f [] = []
-  concatMap f (x ∷ xs) = f x ++ concatMap f xs
+  abbrev pub concat_map : (A → List B) → List A → List B
+  concat_map f [] = []
+  concat_map f (x ∷ xs) = f x ++ concat_map f xs
 
 -- P holds of every element
 abbrev pub Every : {A : Type 0} → (A → Type 0) → List A → Type 0

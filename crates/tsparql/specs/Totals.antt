@@ -1,13 +1,13 @@
 -- Totals for each cell of a variable (document 02, request 1): the groups of rows, their entries, the call that writes them to a lent
 -- output, and what must hold of it beside an evaluation. Assumes nothing.
 use Rattle.std.specs.Prelude.{◌≡◌, cond, List, [], ◌∷◌, ◌++◌, map, ℕ, zero, suc, ◌+◌, ◌/◌, ◌≤◌, ◌<◌, min, ltb, length, take, drop, get_or}
-use Rattle.tsparql.specs.Lists.{keepIf, distinctBy, concatMap}
-use Rattle.tsparql.specs.Values.{Trust, known, Cell, Row, cell_at, lesser, sameCell}
-use Rattle.tsparql.specs.Table.{View, wholeTable, factsIn}
-use Rattle.tsparql.specs.PatternSets.{Aggregate, Aggregation, aggregate, rowsOver}
-use Rattle.tsparql.specs.Reading.{queryNode}
-use Rattle.tsparql.specs.Check.{Refusal, refuse, noRefusal, refuseIf, Passes, passes, or_else, check}
-use Rattle.tsparql.specs.Evaluate.{cellWord, trustWord, Evaluated, evaluateUnless}
+use Rattle.tsparql.specs.Lists.{keep_if, distinct_by, concat_map}
+use Rattle.tsparql.specs.Values.{Trust, known, Cell, Row, cell_at, lesser, same_cell}
+use Rattle.tsparql.specs.Table.{View, whole_table, facts_in}
+use Rattle.tsparql.specs.PatternSets.{Aggregate, Aggregation, aggregate, rows_over}
+use Rattle.tsparql.specs.Reading.{query_node}
+use Rattle.tsparql.specs.Check.{Refusal, refuse, no_refusal, refuse_if, Passes, passes, or_else, check}
+use Rattle.tsparql.specs.Evaluate.{cell_word, trust_word, Evaluated, evaluate_unless}
 use Rattle.tsparql.specs.Calls.{Tally, tallied}
 
 -- ---- groups
@@ -23,43 +23,43 @@ abbrev pub cell_of : ℕ → Row → Cell
 cell_of u r = cell_at r.cells u
 
 -- the different cells of a variable in order of first appearance; free is one like any other
-abbrev pub differentCells : ℕ → List Row → List Cell
-differentCells u rs = distinctBy sameCell (map (cell_of u) rs)
+abbrev pub different_cells : ℕ → List Row → List Cell
+different_cells u rs = distinct_by same_cell (map (cell_of u) rs)
 
 -- the rows that have the cell
-abbrev pub rowsWith : ℕ → Cell → List Row → List Row
-rowsWith u c rs = keepIf (λ r. sameCell c (cell_of u r)) rs
+abbrev pub rows_with : ℕ → Cell → List Row → List Row
+rows_with u c rs = keep_if (λ r. same_cell c (cell_of u r)) rs
 
 -- the least trust of rows, unknown if one is; of none 1000, but a group is never empty
-unfoldable pub leastTrust : List Row → Trust
-leastTrust [] = known 2000
-leastTrust (r ∷ rs) = lesser r.trust (leastTrust rs)
+unfoldable pub least_trust : List Row → Trust
+least_trust [] = known 2000
+least_trust (r ∷ rs) = lesser r.trust (least_trust rs)
 
 abbrev pub group_of : ℕ → List Row → Cell → Group
-group_of u rs c = record { cell = c; count = length (rowsWith u c rs); trust = leastTrust (rowsWith u c rs) }
+group_of u rs c = record { cell = c; count = length (rows_with u c rs); trust = least_trust (rows_with u c rs) }
 
 -- a group for each different cell
 unfoldable pub groups : ℕ → List Row → List Group
-groups u rs = map (group_of u rs) (differentCells u rs)
+groups u rs = map (group_of u rs) (different_cells u rs)
 
 -- ---- entries
 
 -- how many words a group has: its cell, its count, its trust
-abbrev pub groupLength : ℕ
-groupLength = 3
+abbrev pub group_length : ℕ
+group_length = 3
 
 -- cell and trust as in a row
-abbrev pub groupWords : Group → List ℕ
-groupWords g = cellWord g.cell ∷ g.count ∷ trustWord g.trust ∷ []
+abbrev pub group_words : Group → List ℕ
+group_words g = cell_word g.cell ∷ g.count ∷ trust_word g.trust ∷ []
 
 -- the entries of rows
-unfoldable pub totalsWords : ℕ → List Row → List ℕ
-totalsWords u rs = concatMap groupWords (groups u rs)
+unfoldable pub totals_words : ℕ → List Row → List ℕ
+totals_words u rs = concat_map group_words (groups u rs)
 
 -- the sum of the counts of n entries
-unfoldable pub countsIn : ℕ → List ℕ → ℕ
-countsIn zero ws = 0
-countsIn (suc n) ws = get_or ws 1 0 + countsIn n (drop groupLength ws)
+unfoldable pub counts_in : ℕ → List ℕ → ℕ
+counts_in zero ws = 0
+counts_in (suc n) ws = get_or ws 1 0 + counts_in n (drop group_length ws)
 
 -- ---- the call
 
@@ -67,39 +67,39 @@ countsIn (suc n) ws = get_or ws 1 0 + countsIn n (drop groupLength ws)
 pub record Totals : Type 0 where
   pub refusal : Refusal
   pub size : ℕ
-  pub rowSpace : List ℕ
+  pub row_space : List ℕ
   pub output : List ℕ
 
 -- 10, a variable above 15
-abbrev pub variableRefusal : ℕ → Refusal
-variableRefusal u = refuseIf (ltb 15 u) 10 0
+abbrev pub variable_refusal : ℕ → Refusal
+variable_refusal u = refuse_if (ltb 15 u) 10 0
 
 -- 10, an output that is shorter than the entries
-abbrev pub outputRefusal : List ℕ → List ℕ → Refusal
-outputRefusal es out = refuseIf (ltb (length out) (length es)) 10 (length es)
+abbrev pub output_refusal : List ℕ → List ℕ → Refusal
+output_refusal es out = refuse_if (ltb (length out) (length es)) 10 (length es)
 
 -- a refusal: nothing is written
-abbrev pub totalsRefused : Refusal → List ℕ → List ℕ → Totals
-totalsRefused r ws out = record { refusal = r; size = 0; rowSpace = ws; output = out }
+abbrev pub totals_refused : Refusal → List ℕ → List ℕ → Totals
+totals_refused r ws out = record { refusal = r; size = 0; row_space = ws; output = out }
 
 -- the entries at the front of the output, the rest of it unchanged
-abbrev pub totalsWritten : List ℕ → List ℕ → List ℕ → Totals
-totalsWritten es ws out = record { refusal = noRefusal; size = length es; rowSpace = ws; output = es ++ drop (length es) out }
+abbrev pub totals_written : List ℕ → List ℕ → List ℕ → Totals
+totals_written es ws out = record { refusal = no_refusal; size = length es; row_space = ws; output = es ++ drop (length es) out }
 
 -- after an evaluation: refused where it is, or else where the output is too short; the row space as the evaluation left it
-abbrev pub totalsAfter : Evaluated → List ℕ → List ℕ → Totals
-totalsAfter e es out =
-    let r = or_else e.refusal (outputRefusal es out) in
-    cond (passes r) (totalsWritten es e.rowSpace out) (totalsRefused r e.rowSpace out)
+abbrev pub totals_after : Evaluated → List ℕ → List ℕ → Totals
+totals_after e es out =
+    let r = or_else e.refusal (output_refusal es out) in
+    cond (passes r) (totals_written es e.row_space out) (totals_refused r e.row_space out)
 
 -- without a tally
-unfoldable pub totalsOver : Aggregate → View → List ℕ → List ℕ → ℕ → List ℕ → List ℕ → Totals
-totalsOver g v t s u ws out =
-    totalsAfter (evaluateUnless (variableRefusal u) g v t s ws) (totalsWords u (rowsOver g (factsIn v t) (queryNode s))) out
+unfoldable pub totals_over : Aggregate → View → List ℕ → List ℕ → ℕ → List ℕ → List ℕ → Totals
+totals_over g v t s u ws out =
+    totals_after (evaluate_unless (variable_refusal u) g v t s ws) (totals_words u (rows_over g (facts_in v t) (query_node s))) out
 
 -- of a whole table by the aggregate that the caller chooses
-abbrev pub totalsUntallied : List ℕ → List ℕ → Aggregation → ℕ → List ℕ → List ℕ → Totals
-totalsUntallied t s g u ws out = totalsOver (aggregate g) (wholeTable t) t s u ws out
+abbrev pub totals_untallied : List ℕ → List ℕ → Aggregation → ℕ → List ℕ → List ℕ → Totals
+totals_untallied t s g u ws out = totals_over (aggregate g) (whole_table t) t s u ws out
 
 -- the totals, and the tally that they give back
 pub record TotalsAnswer : Type 0 where
@@ -107,9 +107,9 @@ pub record TotalsAnswer : Type 0 where
   pub tally : Tally
 
 -- the call: table, query, choice, variable, row space, output, tally
-abbrev pub totalsCall : List ℕ → List ℕ → Aggregation → ℕ → List ℕ → List ℕ → Tally → TotalsAnswer
-totalsCall t s g u ws out a =
-    record { totals = totalsUntallied t s g u ws out; tally = tallied a (totalsUntallied t s g u ws out).refusal }
+abbrev pub totals_call : List ℕ → List ℕ → Aggregation → ℕ → List ℕ → List ℕ → Tally → TotalsAnswer
+totals_call t s g u ws out a =
+    record { totals = totals_untallied t s g u ws out; tally = tallied a (totals_untallied t s g u ws out).refusal }
 
 -- ---- what must hold of it
 
@@ -120,20 +120,20 @@ pub record TotalsBeside (t s : List ℕ) (u : ℕ) (rs : List Row) (ws out : Lis
   pub as-checked : (Passes (check t s) → ⊥) → x.refusal ≡ check t s
   pub variable-above : Passes (check t s) → 15 < u → x.refusal ≡ refuse 10 0
   pub as-evaluated : u ≤ 15 → (Passes e.refusal → ⊥) → x.refusal ≡ e.refusal
-  pub output-short : u ≤ 15 → Passes e.refusal → length out < length (totalsWords u rs)
-      → x.refusal ≡ refuse 10 (length (totalsWords u rs))
-  pub answered : u ≤ 15 → Passes e.refusal → length (totalsWords u rs) ≤ length out → x.refusal ≡ noRefusal
+  pub output-short : u ≤ 15 → Passes e.refusal → length out < length (totals_words u rs)
+      → x.refusal ≡ refuse 10 (length (totals_words u rs))
+  pub answered : u ≤ 15 → Passes e.refusal → length (totals_words u rs) ≤ length out → x.refusal ≡ no_refusal
   -- 2. an answer tells the length of the entries, which stand at the front of the output, and the sum of their counts is how many rows
   -- the evaluation has
-  pub size_is : Passes x.refusal → x.size ≡ length (totalsWords u rs)
-  pub entries-written : Passes x.refusal → take x.size x.output ≡ totalsWords u rs
-  pub counts-add-up : Passes x.refusal → countsIn (x.size / groupLength) x.output ≡ e.rows
+  pub size_is : Passes x.refusal → x.size ≡ length (totals_words u rs)
+  pub entries-written : Passes x.refusal → take x.size x.output ≡ totals_words u rs
+  pub counts-add-up : Passes x.refusal → counts_in (x.size / group_length) x.output ≡ e.rows
   -- 3. of the groups whose entries these are, one has a cell that some row has, and none has any other
-  pub in-one-group : (c : Cell) → length (keepIf (λ y. sameCell c y.cell) (groups u rs)) ≡ min 1 (length (rowsWith u c rs))
+  pub in-one-group : (c : Cell) → length (keep_if (λ y. same_cell c y.cell) (groups u rs)) ≡ min 1 (length (rows_with u c rs))
   -- 4. what the output held is still there behind the entries, and on a refusal everywhere
   pub rest-unchanged : drop x.size x.output ≡ drop x.size out
   pub none_written : (Passes x.refusal → ⊥) → (x.size ≡ 0) × (x.output ≡ out)
   -- 5. where the check passes and the variable is one of the 16 the row space is that of the evaluation, whatever the output; else it is
   -- untouched
-  pub space-as-evaluated : Passes (check t s) → u ≤ 15 → x.rowSpace ≡ e.rowSpace
-  pub space-untouched : (Passes (check t s) → u ≤ 15 → ⊥) → x.rowSpace ≡ ws
+  pub space-as-evaluated : Passes (check t s) → u ≤ 15 → x.row_space ≡ e.row_space
+  pub space-untouched : (Passes (check t s) → u ≤ 15 → ⊥) → x.row_space ≡ ws

@@ -11,31 +11,31 @@ use lib.ListN.{length, drop, get_or, set, length-set, length-drop}
 use lib.Seq.{drop-drop, drop-length, get_or-set_same, get_or-set_other}
 use borrow.Author.Tests.{ltb-true, ltb-false}
 use Rattle.grammar.proofs.Basics.{cond_cases, ahead}
-use Rattle.words.specs.Links.{isOpening, isClosing, behindOf, closing, LinkedFrom, Linked, Links}
+use Rattle.words.specs.Links.{is_opening, is_closing, behind_of, closing, LinkedFrom, Linked, Links}
 
 -- ---- what stands behind
 
-pub behind-none : (ws : List ℕ) → behindOf 0 ws ≡ ws
-unfolding behindOf
+pub behind-none : (ws : List ℕ) → behind_of 0 ws ≡ ws
+unfolding behind_of
 behind-none [] = refl
 behind-none (w ∷ ws) = refl
 
 -- behind e closing brackets, and then d
-pub behind_sum : (d e f : ℕ) (ws : List ℕ) → f ≡ e + d → behindOf d (behindOf e ws) ≡ behindOf f ws
-unfolding behindOf
+pub behind_sum : (d e f : ℕ) (ws : List ℕ) → f ≡ e + d → behind_of d (behind_of e ws) ≡ behind_of f ws
+unfolding behind_of
 behind_sum d e f [] q = refl
-behind_sum d (zero) f (w ∷ ws) q = let same : d ≡ f = omega arith in ap (λ (n : ℕ). behindOf n (w ∷ ws)) same
+behind_sum d (zero) f (w ∷ ws) q = let same : d ≡ f = omega arith in ap (λ (n : ℕ). behind_of n (w ∷ ws)) same
 behind_sum d (suc e) (zero) (w ∷ ws) q = absurd (omega arith)
 behind_sum d (suc e) (suc f) (w ∷ ws) q =
     let closes = behind_sum d e f ws (omega arith) in
     let opens = behind_sum d (suc (suc e)) (suc (suc f)) ws (omega arith) in
     let other = behind_sum d (suc e) (suc f) ws (omega arith) in
-    split (isClosing w) (isOpening w) refl refl closes opens other
+    split (is_closing w) (is_opening w) refl refl closes opens other
   where
     split :
-        (c o : Bool) → isClosing w ≡ c → isOpening w ≡ o → behindOf d (behindOf e ws) ≡ behindOf f ws
-        → behindOf d (behindOf (suc (suc e)) ws) ≡ behindOf (suc (suc f)) ws → behindOf d (behindOf (suc e) ws) ≡ behindOf (suc f) ws
-        → behindOf d (behindOf (suc e) (w ∷ ws)) ≡ behindOf (suc f) (w ∷ ws)
+        (c o : Bool) → is_closing w ≡ c → is_opening w ≡ o → behind_of d (behind_of e ws) ≡ behind_of f ws
+        → behind_of d (behind_of (suc (suc e)) ws) ≡ behind_of (suc (suc f)) ws → behind_of d (behind_of (suc e) ws) ≡ behind_of (suc f) ws
+        → behind_of d (behind_of (suc e) (w ∷ ws)) ≡ behind_of (suc f) (w ∷ ws)
     split true o p r x y z = rw p x
     split false true p r x y z = rw (p, r) y
     split false false p r x y z = rw (p, r) z
@@ -56,22 +56,22 @@ end_more w ws ends e =
 end-all : (ws : List ℕ) → EndOf ws ws
 end-all ws = record { fewer = le_refl (length ws); so = sym (ap (λ (k : ℕ). drop k ws) (sub_self (length ws))) }
 
-behind-end : (d : ℕ) (ws : List ℕ) → EndOf ws (behindOf d ws)
-unfolding behindOf
+behind-end : (d : ℕ) (ws : List ℕ) → EndOf ws (behind_of d ws)
+unfolding behind_of
 behind-end d [] = end-all []
 behind-end (zero) (w ∷ ws) = end-all (w ∷ ws)
 behind-end (suc d) (w ∷ ws) =
     let closes = behind-end d ws in
     let opens = behind-end (suc (suc d)) ws in
     let other = behind-end (suc d) ws in
-    end_more w ws (behindOf (suc d) (w ∷ ws))
-    (cond_cases (EndOf ws) (isClosing w) (λ _. closes) (λ _. cond_cases (EndOf ws) (isOpening w) (λ _. opens) (λ _. other)))
+    end_more w ws (behind_of (suc d) (w ∷ ws))
+    (cond_cases (EndOf ws) (is_closing w) (λ _. closes) (λ _. cond_cases (EndOf ws) (is_opening w) (λ _. opens) (λ _. other)))
 
 -- e is the place behind the bracket that is open at i
 pub record ClosedAt (t : List ℕ) (i e : ℕ) : Type 0 where
   pub from : i ≤ e
   pub to : e ≤ length t
-  pub so : drop e t ≡ behindOf 1 (drop i t)
+  pub so : drop e t ≡ behind_of 1 (drop i t)
 
 pub closed-place : {t : List ℕ} {i e : ℕ} → ClosedAt t i e → e ≡ closing t i
 unfolding closing
@@ -84,9 +84,9 @@ pub closing-forward : (t : List ℕ) (i : ℕ) → i ≤ closing t i
 unfolding closing
 closing-forward t i = omega arith
 
-pub closing-behind : (t : List ℕ) (i : ℕ) → drop (closing t i) t ≡ behindOf 1 (drop i t)
+pub closing-behind : (t : List ℕ) (i : ℕ) → drop (closing t i) t ≡ behind_of 1 (drop i t)
 unfolding closing
-closing-behind t i = sym (drop-drop (length (drop i t) - length (behindOf 1 (drop i t))) i t) ∙ sym (behind-end 1 (drop i t)).so
+closing-behind t i = sym (drop-drop (length (drop i t) - length (behind_of 1 (drop i t))) i t) ∙ sym (behind-end 1 (drop i t)).so
 
 place-closed : (t : List ℕ) (i : ℕ) → i ≤ length t → ClosedAt t i (closing t i)
 unfolding closing
@@ -95,13 +95,13 @@ place-closed t i h =
 
 -- ---- one word more
 
-pub closed-closing : (t : List ℕ) (i : ℕ) → i < length t → isClosing (get_or t i 0) ≡ true → ClosedAt t i (i + 1)
-unfolding behindOf
+pub closed-closing : (t : List ℕ) (i : ℕ) → i < length t → is_closing (get_or t i 0) ≡ true → ClosedAt t i (i + 1)
+unfolding behind_of
 closed-closing t i h w =
     record {
       from = omega arith;
       to = omega arith;
-      so = sym (ap (λ (ws : List ℕ). behindOf 1 ws) (ahead t i h) ∙ rw w (behind-none (drop (i + 1) t)));
+      so = sym (ap (λ (ws : List ℕ). behind_of 1 ws) (ahead t i h) ∙ rw w (behind-none (drop (i + 1) t)));
     }
 
 module _ (t ends : List ℕ) (i : ℕ) (h : i < length t) (links : LinkedFrom t ends (i + 1)) where
@@ -112,9 +112,9 @@ module _ (t ends : List ℕ) (i : ℕ) (h : i < length t) (links : LinkedFrom t 
   next = known (i + 1) (le_refl (i + 1)) (omega arith)
 
   -- the bracket that opens here, and then the one that is open before it
-  pub closed-opening : isClosing (get_or t i 0) ≡ false → isOpening (get_or t i 0) ≡ true
+  pub closed-opening : is_closing (get_or t i 0) ≡ false → is_opening (get_or t i 0) ≡ true
       → ClosedAt t i (get_or ends (get_or ends (i + 1) 0) 0)
-  unfolding behindOf
+  unfolding behind_of
   closed-opening c o =
       let e = get_or ends (i + 1) 0 in
       let from₁ = next.from in
@@ -125,14 +125,14 @@ module _ (t ends : List ℕ) (i : ℕ) (h : i < length t) (links : LinkedFrom t 
         to = second.to;
         so =
             second.so
-            ∙ ap (λ (ws : List ℕ). behindOf 1 ws) next.so
+            ∙ ap (λ (ws : List ℕ). behind_of 1 ws) next.so
             ∙ behind_sum 1 1 2 (drop (i + 1) t) refl
-            ∙ sym (ap (λ (ws : List ℕ). behindOf 1 ws) (ahead t i h)
+            ∙ sym (ap (λ (ws : List ℕ). behind_of 1 ws) (ahead t i h)
             ∙ rw (c, o));
       }
 
-  pub closed-other : isClosing (get_or t i 0) ≡ false → isOpening (get_or t i 0) ≡ false → ClosedAt t i (get_or ends (i + 1) 0)
-  unfolding behindOf
+  pub closed-other : is_closing (get_or t i 0) ≡ false → is_opening (get_or t i 0) ≡ false → ClosedAt t i (get_or ends (i + 1) 0)
+  unfolding behind_of
   closed-other c o =
       let from₁ = next.from in
       record {
@@ -140,7 +140,7 @@ module _ (t ends : List ℕ) (i : ℕ) (h : i < length t) (links : LinkedFrom t 
         to = next.to;
         so =
             next.so
-            ∙ sym (ap (λ (ws : List ℕ). behindOf 1 ws) (ahead t i h) ∙ rw (c, o));
+            ∙ sym (ap (λ (ws : List ℕ). behind_of 1 ws) (ahead t i h) ∙ rw (c, o));
       }
 
 -- ---- the loop
@@ -175,11 +175,11 @@ linked-entry t ends i e r c l j h k = split (ltb i j) refl
 pub linking-first :
     (t ends : List ℕ) → length t < length ends
     → Linking t (set ends (length t) (length t)) (set ends (length t) (length t)) (length t)
-unfolding behindOf
+unfolding behind_of
 linking-first t ends h =
     let n = length t in
     let all : ClosedAt t n n =
-    record { from = le_refl n; to = le_refl n; so = sym (ap (λ (ws : List ℕ). behindOf 1 ws) (drop-length t) ∙ sym (drop-length t)) } in
+    record { from = le_refl n; to = le_refl n; so = sym (ap (λ (ws : List ℕ). behind_of 1 ws) (drop-length t) ∙ sym (drop-length t)) } in
     record {
       inside = le_refl n;
       same = refl;

@@ -2,22 +2,22 @@
 use Rattle.std.specs.Prelude.{◌≡◌, Bool, cond, ◌||◌, List, [], ◌∷◌, ℕ, zero, suc, ◌+◌, ◌-◌, ◌≤◌, ◌<◌, eqb, length, drop, get_or}
 
 -- '{' or '('
-abbrev pub isOpening : ℕ → Bool
-isOpening w = eqb w 123 || eqb w 40
+abbrev pub is_opening : ℕ → Bool
+is_opening w = eqb w 123 || eqb w 40
 
 -- '}' or ')'
-abbrev pub isClosing : ℕ → Bool
-isClosing w = eqb w 125 || eqb w 41
+abbrev pub is_closing : ℕ → Bool
+is_closing w = eqb w 125 || eqb w 41
 
 -- what stands behind the bracket that closes the outermost of d open ones; nothing where none does
-unfoldable pub behindOf : ℕ → List ℕ → List ℕ
-behindOf d [] = []
-behindOf (zero) (w ∷ ws) = w ∷ ws
-behindOf (suc d) (w ∷ ws) = cond (isClosing w) (behindOf d ws) (cond (isOpening w) (behindOf (suc (suc d)) ws) (behindOf (suc d) ws))
+unfoldable pub behind_of : ℕ → List ℕ → List ℕ
+behind_of d [] = []
+behind_of (zero) (w ∷ ws) = w ∷ ws
+behind_of (suc d) (w ∷ ws) = cond (is_closing w) (behind_of d ws) (cond (is_opening w) (behind_of (suc (suc d)) ws) (behind_of (suc d) ws))
 
 -- the place behind the bracket that is open at i: as far on as fewer words are left; the end where none closes it
 unfoldable pub closing : List ℕ → ℕ → ℕ
-closing t i = i + (length (drop i t) - length (behindOf 1 (drop i t)))
+closing t i = i + (length (drop i t) - length (behind_of 1 (drop i t)))
 
 -- ends has that place for every place from i on
 abbrev pub LinkedFrom : List ℕ → List ℕ → ℕ → Type 0

@@ -1,6 +1,6 @@
 // The tokens of a text as words, and where its brackets close. What an array of ends holds behind the last word is free.
 ghost use Rattle.std.specs.Prelude.{◌≡◌, ◌+◌, ◌≤◌, ◌<◌, length, get_or};
-ghost use Rattle.words.specs.Links.{isOpening, isClosing, closing, LinkedFrom, Linked, Links};
+ghost use Rattle.words.specs.Links.{is_opening, is_closing, closing, LinkedFrom, Linked, Links};
 
 // The word of a fixed token is its first byte.
 pub const LBRACE: u32 = 123;
@@ -46,7 +46,7 @@ pub fn word(t: &[u32], i: usize) -> u32
 }
 
 fn opens(w: u32) -> bool
-    ensures { result ≡ isOpening w }
+    ensures { result ≡ is_opening w }
 {
     if w == LBRACE {
         return true;
@@ -55,7 +55,7 @@ fn opens(w: u32) -> bool
 }
 
 fn closes(w: u32) -> bool
-    ensures { result ≡ isClosing w }
+    ensures { result ≡ is_closing w }
 {
     if w == RBRACE {
         return true;

@@ -3,14 +3,14 @@ use mathlib.Core.Path.{◌≡◌, sym, ap, ◌∙◌}
 use mathlib.Core.List.{[], ◌∷◌}
 use Prim.Native.Nat.{ℕ, ◌/◌, ◌%◌}
 use native.Mathlib.Omega.{arith}
-use Rattle.tsparql.specs.Writing.{threeBytes}
+use Rattle.tsparql.specs.Writing.{three_bytes}
 use Rattle.blocks.specs.Buffers.{buffer, appended}
 use Rattle.blocks.proofs.Holding.{appended-on}
 use borrow.Author.Rules.{rules}
 use Rattle.blocks.proofs.append3.Statement.{statement}
 use Rattle.blocks.proofs.append3.Tie as tie
 
-low-bytes : (x : ℕ) → x / 65536 % 32 ∷ x / 256 % 256 ∷ x % 256 ∷ [] ≡ threeBytes (x % 2097152)
+low-bytes : (x : ℕ) → x / 65536 % 32 ∷ x / 256 % 256 ∷ x % 256 ∷ [] ≡ three_bytes (x % 2097152)
 low-bytes x =
     let p : x % 2097152 / 65536 ≡ x / 65536 % 32 = omega arith in
     let q : x % 2097152 / 256 % 256 ≡ x / 256 % 256 = omega arith in

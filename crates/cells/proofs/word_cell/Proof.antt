@@ -1,4 +1,4 @@
--- `word_cell` answers the cell of the word: its two tests are those of `wordCell`, and `word_trust` reads the rest.
+-- `word_cell` answers the cell of the word: its two tests are those of `word_cell`, and `word_trust` reads the rest.
 use native.Mathlib.Omega.{arith}
 use borrow.Author.Tests.{eq-eqb, ne_eqb, lt-ltb, le-ltb}
 use borrow.Author.Rules.{rules}

@@ -1,4 +1,4 @@
--- `word_trust` answers the trust of the word: the test is the one of `wordTrust`, and `unshifted` gives the number back.
+-- `word_trust` answers the trust of the word: the test is the one of `word_trust`, and `unshifted` gives the number back.
 use native.Mathlib.Omega.{arith}
 use borrow.Author.Tests.{le-leb, lt-leb}
 use borrow.Author.Rules.{rules}

@@ -10,21 +10,21 @@ use borrow.Author.Rules.{rules}
 use borrow.Fn.Kinds.{In}
 use borrow.Fn.PlainCycle.{Measures, is, falls, and}
 use Rattle.tsparql.specs.Values.{Cell}
-use Rattle.tsparql.specs.Evaluate.{rowLength}
-use Rattle.tsparql.specs.Conditions.{holds, truthOn}
-use Rattle.tsparql.specs.Reading.{got, readCondition}
+use Rattle.tsparql.specs.Evaluate.{row_length}
+use Rattle.tsparql.specs.Conditions.{holds, truth_on}
+use Rattle.tsparql.specs.Reading.{got, read_condition}
 use Rattle.heads.specs.declared.ConditionHead.{ConditionHead}
-use Rattle.heads.specs.Answers.{conditionFound}
-use Rattle.heads.specs.Parts.{conditionHeadRead, conditionOperands}
-use Rattle.query.specs.Parts.{mapRead}
-use Rattle.query.proofs.ReadLaws.{on-part, place_of, place-part, faultIn-≤}
+use Rattle.heads.specs.Answers.{condition_found}
+use Rattle.heads.specs.Parts.{condition_head_read, condition_operands}
+use Rattle.query.specs.Parts.{map_read}
+use Rattle.query.proofs.ReadLaws.{on-part, place_of, place-part, fault_in-≤}
 use Rattle.query.proofs.ConditionParts.{condition-inside, condition-head-inside}
 use Rattle.heads.proofs.condition_fault.Reads as condition-fault-reads
 use Rattle.heads.proofs.condition_operands.Reads as condition-operands-reads
 use Rattle.heads.proofs.read_condition_head.Reads as read-condition-head-reads
 use Rattle.rows.specs.RowWords.{row_at}
-use Rattle.conditions.specs.Truths.{truthIn, HeadFormed, headTruth, judgedFound}
-use Rattle.conditions.proofs.ConditionLaws.{judgedAt, head-fault, head-formed, none-judged, first-fault, one-judged, second-fault}
+use Rattle.conditions.specs.Truths.{truth_in, HeadFormed, head_truth, judged_found}
+use Rattle.conditions.proofs.ConditionLaws.{judged_at, head-fault, head-formed, none-judged, first-fault, one-judged, second-fault}
 use Rattle.conditions.proofs.ConditionLaws.{two-judged, fault-place, judges-truth, judges-refused}
 use Rattle.conditions.proofs.head_truth.Reads as head-truth-reads
 use Rattle.conditions.proofs.refused_place.Reads as refused-place-reads
@@ -77,15 +77,15 @@ module _ (t : ℕ) where
   abbrev own : AtHead → ℕ
   own c = c.h.given.0.1.0
 
-  head_read : (c : AtHead) → conditionHeadRead (part c) ≡ got (head c) (own c)
-  head_read c = sym c.before.before.read-condition-head.ensures ∙ ap conditionFound c.h.given.1
+  head_read : (c : AtHead) → condition_head_read (part c) ≡ got (head c) (own c)
+  head_read c = sym c.before.before.read-condition-head.ensures ∙ ap condition_found c.h.given.1
 
   -- its variables are in range, and the row is there
-  head-asked : (c : AtHead) → HeadFormed (head c) × (rowLength ≤ length c.before.before.before.before.before.args.row.now)
+  head-asked : (c : AtHead) → HeadFormed (head c) × (row_length ≤ length c.before.before.before.before.before.args.row.now)
   head-asked c = (head-formed (part c) (head c) (own c) (head_read c), c.before.before.before.before.before.requires.1)
 
   -- its own bytes are there
-  own-inside : (c : AtHead) → (1 ≤ own c) × (own c ≤ length (part c)) × (conditionOperands (head c) ≤ 2)
+  own-inside : (c : AtHead) → (1 ≤ own c) × (own c ≤ length (part c)) × (condition_operands (head c) ≤ 2)
   own-inside c = condition-head-inside (part c) (head_read c)
 
   -- ---- the first operand
@@ -96,18 +96,18 @@ module _ (t : ℕ) where
   abbrev head₁ : AtFirst → AtHead
   head₁ c = c.before.before.before.before.before
 
-  first-judged : (c : AtFirst) → judgedAt (part (head₁ c)) (cells (head₁ c)) (own (head₁ c)) ≡ judgedFound c.truth-of.result
+  first-judged : (c : AtFirst) → judged_at (part (head₁ c)) (cells (head₁ c)) (own (head₁ c)) ≡ judged_found c.truth-of.result
   first-judged c =
       let h = head₁ c in
-      on-part (λ p. mapRead (truthOn (cells h)) (readCondition p)) (part h) (own h) c.truth-of.ensures.found
+      on-part (λ p. map_read (truth_on (cells h)) (read_condition p)) (part h) (own h) c.truth-of.ensures.found
 
-  first-inside : (c : AtFirst) → own (head₁ c) + place_of (judgedFound c.truth-of.result) ≤ length (part (head₁ c))
+  first-inside : (c : AtFirst) → own (head₁ c) + place_of (judged_found c.truth-of.result) ≤ length (part (head₁ c))
   first-inside c =
       let h = head₁ c in
-      place-part (truthOn (cells h)) readCondition condition-inside (part h) (own h) _ c.truth-of.ensures.found (own-inside h).1
+      place-part (truth_on (cells h)) read_condition condition-inside (part h) (own h) _ c.truth-of.ensures.found (own-inside h).1
 
   -- the head has an operand
-  one-or-two : (c : AtFirst) → 1 ≤ conditionOperands (head (head₁ c))
+  one-or-two : (c : AtFirst) → 1 ≤ condition_operands (head (head₁ c))
   one-or-two c = omega (arith, c.before.before.before.condition-operands.ensures)
 
   -- ---- its truth, and the place behind it
@@ -122,11 +122,11 @@ module _ (t : ℕ) where
   mid c = own (headₜ c) + c.a.given.0.1.0
 
   first-truth : (c : AtTruth)
-      → judgedAt (part (headₜ c)) (cells (headₜ c)) (own (headₜ c)) ≡ got (truthIn c.a.given.0.0) c.a.given.0.1.0
-  first-truth c = first-judged c.before.before ∙ ap judgedFound c.a.given.1
+      → judged_at (part (headₜ c)) (cells (headₜ c)) (own (headₜ c)) ≡ got (truth_in c.a.given.0.0) c.a.given.0.1.0
+  first-truth c = first-judged c.before.before ∙ ap judged_found c.a.given.1
 
   mid-inside : (c : AtTruth) → mid c ≤ length (part (headₜ c))
-  mid-inside c = omega (arith, first-inside c.before.before, ap place_of (ap judgedFound c.a.given.1))
+  mid-inside c = omega (arith, first-inside c.before.before, ap place_of (ap judged_found c.a.given.1))
 
   -- ---- the second operand
 
@@ -142,17 +142,17 @@ module _ (t : ℕ) where
   abbrev mid₂ : AtSecond → ℕ
   mid₂ c = mid (truth₂ c)
 
-  second-judged : (c : AtSecond) → judgedAt (part (head₂ c)) (cells (head₂ c)) (mid₂ c) ≡ judgedFound c.truth-of2.result
+  second-judged : (c : AtSecond) → judged_at (part (head₂ c)) (cells (head₂ c)) (mid₂ c) ≡ judged_found c.truth-of2.result
   second-judged c =
-      on-part (λ p. mapRead (truthOn (cells (head₂ c))) (readCondition p)) (part (head₂ c)) (mid₂ c) c.truth-of2.ensures.found
+      on-part (λ p. map_read (truth_on (cells (head₂ c))) (read_condition p)) (part (head₂ c)) (mid₂ c) c.truth-of2.ensures.found
 
-  second-inside : (c : AtSecond) → mid₂ c + place_of (judgedFound c.truth-of2.result) ≤ length (part (head₂ c))
+  second-inside : (c : AtSecond) → mid₂ c + place_of (judged_found c.truth-of2.result) ≤ length (part (head₂ c))
   second-inside c =
-      place-part (truthOn (cells (head₂ c))) readCondition condition-inside (part (head₂ c)) (mid₂ c) _
+      place-part (truth_on (cells (head₂ c))) read_condition condition-inside (part (head₂ c)) (mid₂ c) _
       c.truth-of2.ensures.found (mid-inside (truth₂ c))
 
   -- the head has two operands
-  two : (c : AtSecond) → 2 ≤ conditionOperands (head (head₂ c))
+  two : (c : AtSecond) → 2 ≤ condition_operands (head (head₂ c))
   two c = omega (arith, c.before.before.before.before.before.before.before.before.before.condition-operands.ensures)
 
   -- ---- the needs
@@ -172,7 +172,7 @@ module _ (t : ℕ) where
   returns : lts.Need-returns calls at_entry truth-of.Post
   returns c =
       let q = c.before.before.before.before.before.before.args.q.now in
-      let told = fault-place (ap conditionFound c.before.enum_told.given.1) c.condition-fault.ensures in
+      let told = fault-place (ap condition_found c.before.enum_told.given.1) c.condition-fault.ensures in
       let bad = sym c.before.before.before.read-condition-head.ensures ∙ told in
       judges-refused q _ _ (head-fault q bad)
 
@@ -186,7 +186,7 @@ module _ (t : ℕ) where
   returns-2 c =
       let h = c.before.before.before.before in
       let none = sym c.before.before.condition-operands.ensures ∙ c.before.if1.true in
-      judges-truth (part h) (cells h) _ (headTruth (cells h) (head h) holds holds) _ c.head-truth.ensures
+      judges-truth (part h) (cells h) _ (head_truth (cells h) (head h) holds holds) _ c.head-truth.ensures
       (none-judged _ _ _ _ _ _ (head_read h) none)
 
   sub-truth-of : lts.Need-overflow-sub-truth-of calls at_entry truth-of.Post
@@ -216,13 +216,13 @@ module _ (t : ℕ) where
   add-t24 : lts.Need-overflow-add-t24 calls at_entry truth-of.Post
   add-t24 c =
       let first = c.before.before.before in
-      omega (arith, first-inside first, faultIn-≤ (judgedFound first.truth-of.result), c.refused-place.ensures)
+      omega (arith, first-inside first, fault_in-≤ (judged_found first.truth-of.result), c.refused-place.ensures)
 
   returns-3 : lts.Need-returns-3 calls at_entry truth-of.Post
   returns-3 c =
       let first = c.before.before.before in
       let h = head₁ first in
-      let told = fault-place (ap judgedFound c.before.enum-told2.given.1) c.refused-place.ensures in
+      let told = fault-place (ap judged_found c.before.enum-told2.given.1) c.refused-place.ensures in
       judges-refused (part h) (cells h) _
       (first-fault _ _ _ _ _ (head_read h) (one-or-two first) (first-judged first ∙ told))
 
@@ -237,8 +237,8 @@ module _ (t : ℕ) where
       let counted = c.before.before.before.before.before.before.before.before in
       let h = counted.before.before in
       let one = sym counted.condition-operands.ensures ∙ c.before.if2.true in
-      let u = truthIn c.before.before.before.a.given.0.0 in
-      judges-truth (part h) (cells h) _ (headTruth (cells h) (head h) u u) _ c.head-truth2.ensures
+      let u = truth_in c.before.before.before.a.given.0.0 in
+      judges-truth (part h) (cells h) _ (head_truth (cells h) (head h) u u) _ c.head-truth2.ensures
       (one-judged _ _ _ _ _ _ _ (head_read h) one (first-truth c.before.before.before))
 
   sub-truth-of-2 : lts.Need-overflow-sub-truth-of-2 calls at_entry truth-of.Post
@@ -271,7 +271,7 @@ module _ (t : ℕ) where
       omega (
         arith,
         second-inside c.before.before.before,
-        faultIn-≤ (judgedFound c.before.before.before.truth-of2.result),
+        fault_in-≤ (judged_found c.before.before.before.truth-of2.result),
         c.refused-place2.ensures,
       )
 
@@ -279,7 +279,7 @@ module _ (t : ℕ) where
   returns-5 c =
       let second = c.before.before.before in
       let h = head₂ second in
-      let told = fault-place (ap judgedFound c.before.enum-told3.given.1) c.refused-place2.ensures in
+      let told = fault-place (ap judged_found c.before.enum-told3.given.1) c.refused-place2.ensures in
       judges-refused (part h) (cells h) _
       (second-fault _ _ _ _ _ _ _ (head_read h) (two second) (first-truth (truth₂ second)) (second-judged second ∙ told))
 
@@ -287,14 +287,14 @@ module _ (t : ℕ) where
   head-truth-requires-3 c κs = head-asked (headₜ c.before.before.before.before.before.before.before)
 
   add-t20 : lts.Need-overflow-add-t20 calls at_entry truth-of.Post
-  add-t20 c = omega (arith, second-inside c.before.before.before.before, ap place_of (ap judgedFound c.before.before.b.given.1))
+  add-t20 c = omega (arith, second-inside c.before.before.before.before, ap place_of (ap judged_found c.before.before.b.given.1))
 
   returns-6 : lts.Need-returns-6 calls at_entry truth-of.Post
   returns-6 c =
       let second = c.before.before.before.before in
       let h = head₂ second in
-      let told = ap judgedFound c.before.before.b.given.1 in
-      let x = headTruth (cells h) (head h) (truthIn (truth₂ second).a.given.0.0) (truthIn c.before.before.b.given.0.0) in
+      let told = ap judged_found c.before.before.b.given.1 in
+      let x = head_truth (cells h) (head h) (truth_in (truth₂ second).a.given.0.0) (truth_in c.before.before.b.given.0.0) in
       judges-truth (part h) (cells h) _ x _ c.head-truth3.ensures
       (two-judged _ _ _ _ _ _ _ _ (head_read h) (two second) (first-truth (truth₂ second)) (second-judged second ∙ told))
 

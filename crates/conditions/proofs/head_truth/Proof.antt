@@ -1,7 +1,7 @@
 -- `head_truth` goes by the eight heads; the cells are those of the head's variables. Assumes nothing.
 use mathlib.Core.Path.{ap, ap₂, subst, ◌∙◌}
 use Rattle.tsparql.specs.Values.{term}
-use Rattle.tsparql.specs.Conditions.{boundTruth, sameTruth, lessTruth}
+use Rattle.tsparql.specs.Conditions.{bound_truth, same_truth, less_truth}
 use Rattle.conditions.specs.Truths.{HeadFormed}
 use borrow.Author.Rules.{rules}
 use Rattle.conditions.proofs.head_truth.Statement.{statement}
@@ -78,22 +78,22 @@ enum-told-4 c = search rules
 
 returns : tie.Need-returns
 returns c =
-    rw c.before.before.before.h.given.1 (c.bound-truth.ensures ∙ ap boundTruth c.before.cell_at.ensures)
+    rw c.before.before.before.h.given.1 (c.bound-truth.ensures ∙ ap bound_truth c.before.cell_at.ensures)
 
 returns-2 : tie.Need-returns-2
 returns-2 c =
     rw c.before.before.before.before.h2.given.1
-    (c.same_truth.ensures ∙ ap₂ sameTruth c.before.before.cell-at2.ensures c.before.cell-at3.ensures)
+    (c.same_truth.ensures ∙ ap₂ same_truth c.before.before.cell-at2.ensures c.before.cell-at3.ensures)
 
 returns-3 : tie.Need-returns-3
 returns-3 c =
     let h = c.before.before.before.h3.given in
-    rw h.1 (c.same-truth2.ensures ∙ ap (λ d. sameTruth d (term h.0.1.0)) c.before.cell-at4.ensures)
+    rw h.1 (c.same-truth2.ensures ∙ ap (λ d. same_truth d (term h.0.1.0)) c.before.cell-at4.ensures)
 
 returns-4 : tie.Need-returns-4
 returns-4 c =
     rw c.before.before.before.before.h4.given.1
-    (c.less-truth.ensures ∙ ap₂ lessTruth c.before.before.cell-at5.ensures c.before.cell-at6.ensures)
+    (c.less-truth.ensures ∙ ap₂ less_truth c.before.before.cell-at5.ensures c.before.cell-at6.ensures)
 
 returns-5 : tie.Need-returns-5
 returns-5 c = search rules

@@ -7,15 +7,15 @@ use native.Mathlib.Omega.{arith}
 use borrow.Author.Rules.{rules}
 use denote.Enum.Declared.{tag_of}
 use types.Run.{OneOf}
-use Rattle.tsparql.specs.Conditions.{isTrue}
-use Rattle.conditions.specs.Truths.{truthIn}
+use Rattle.tsparql.specs.Conditions.{is_true}
+use Rattle.conditions.specs.Truths.{truth_in}
 use Rattle.conditions.specs.declared.Truth.{Truth}
 use Rattle.conditions.specs.declared.Truth.TheVariants as T
 use Rattle.conditions.specs.contracts.Truth.{the_type}
 use Rattle.conditions.proofs.is_true.Statement.{statement}
 use Rattle.conditions.proofs.is_true.Tie as tie
 
-others-fail : (t : Truth) → OneOf (1 ∷ 2 ∷ []) (tag_of the_type t) → false ≡ isTrue (truthIn t)
+others-fail : (t : Truth) → OneOf (1 ∷ 2 ∷ []) (tag_of the_type t) → false ≡ is_true (truth_in t)
 others-fail T.True (inl e) = absurd (omega arith)
 others-fail T.True (inr e) = absurd (omega arith)
 others-fail T.False h = refl

@@ -4,17 +4,17 @@ use mathlib.Core.List.{List}
 use Prim.Native.Nat.{ℕ, ◌-◌, ◌*◌}
 use native.Mathlib.Omega.{arith}
 use borrow.Author.Rules.{rules}
-use Rattle.tsparql.specs.Evaluate.{rowLength}
-use Rattle.tsparql.specs.Conditions.{isTrue, truthOn, trueOn}
+use Rattle.tsparql.specs.Evaluate.{row_length}
+use Rattle.tsparql.specs.Conditions.{is_true, truth_on, true_on}
 use Rattle.query.proofs.ReadLaws.{part-drop}
 use Rattle.rows.specs.RowWords.{row_at}
 use Rattle.passes.proofs.CompactionLaws.{Compacted, compacted-none, compacted-more, compacted-all}
-use Rattle.conditions.specs.Truths.{conditionOf}
+use Rattle.conditions.specs.Truths.{condition_of}
 use Rattle.conditions.proofs.keep_true.Statement.{statement}
 use Rattle.conditions.proofs.keep_true.Tie as tie
 
 abbrev invariant-loop : tie.invariant-loop
-invariant-loop q space₀ n i₀ k₀ space i k = Compacted (trueOn (conditionOf q)) n space₀ i k space
+invariant-loop q space₀ n i₀ k₀ space i k = Compacted (true_on (condition_of q)) n space₀ i k space
 
 abbrev decreases-loop : tie.decreases-loop
 decreases-loop q space₀ n i₀ k₀ space i k = n - i
@@ -53,15 +53,15 @@ loop-less : tie.Need-loop-smaller invariant-loop decreases-loop
 loop-less c = search rules
 
 loop-again : tie.Need-loop-preserved invariant-loop decreases-loop
-unfolding trueOn
+unfolding true_on
 loop-again c =
     let asked = c.before.before.before.before in
     let head = asked.before.before.before.before.before in
     let q = head.before.before.before.args.q.now in
     let cur = head.loop.space in
     let i = head.loop.i in
-    let here = ap (λ (l : List ℕ). truthOn (row_at 0 l).cells (conditionOf q)) (part-drop cur (rowLength * i)) in
-    let test = asked.is_true.ensures ∙ ap isTrue (asked.before.truth-on.ensures ∙ here) in
+    let here = ap (λ (l : List ℕ). truth_on (row_at 0 l).cells (condition_of q)) (part-drop cur (row_length * i)) in
+    let test = asked.is_true.ensures ∙ ap is_true (asked.before.truth-on.ensures ∙ here) in
     compacted-more head.before.before.before.requires.1 head.loop.invariant (omega arith) _ test c.before.before.keep_row.ensures
 
 same_length : tie.Need-same-length invariant-loop decreases-loop

@@ -7,7 +7,7 @@ use borrow.Author.Tests.{le-leb, lt-leb}
 use lib.Dec.{leb}
 use lib.ListN.{length}
 use lib.ListN.{length-set}
-use Rattle.tsparql.specs.Writing.{firstByte, threeBytes}
+use Rattle.tsparql.specs.Writing.{first_byte, three_bytes}
 use Rattle.encoding.proofs.WriterLaws.{stored-if, misfits-if, nothing-wrote, both_true, right-false, left_false}
 use borrow.Author.Rules.{rules}
 use Rattle.encoding.proofs.write_bounds.Statement.{statement}
@@ -32,13 +32,13 @@ returns : tie.Need-returns
 returns c =
     let a = c.before.before.before.before.before.before.before.before.args in
     rw c.before.before.put-bits.ensures
-    (stored-if _ (firstByte 6 0 ∷ threeBytes (4096 * a.l + a.u)) a.out.now
+    (stored-if _ (first_byte 6 0 ∷ three_bytes (4096 * a.l + a.u)) a.out.now
     (both_true _ _ (le-leb a.l 2000 (omega arith)) (le-leb a.u 2000 (omega arith))) (omega arith))
 
 returns-2 : tie.Need-returns-2
 returns-2 c =
     let a = c.before.before.before.before.args in
-    misfits-if _ (firstByte 6 0 ∷ threeBytes (4096 * a.l + a.u)) a.out.now
+    misfits-if _ (first_byte 6 0 ∷ three_bytes (4096 * a.l + a.u)) a.out.now
     (both_true _ _ (le-leb a.l 2000 (omega arith)) (le-leb a.u 2000 (omega arith))) (omega arith)
 
 returns-3 : tie.Need-returns-3

@@ -2,7 +2,7 @@
 use mathlib.Core.List.{[], ◌∷◌}
 use native.Mathlib.Omega.{arith}
 use borrow.Author.Tests.{lt-ltb, le-ltb}
-use Rattle.tsparql.specs.Writing.{firstByte}
+use Rattle.tsparql.specs.Writing.{first_byte}
 use Rattle.encoding.proofs.WriterLaws.{stored-if, misfits-if, nothing-wrote}
 use borrow.Author.Rules.{rules}
 use Rattle.encoding.proofs.write_first.Statement.{statement}
@@ -23,17 +23,17 @@ same_length c = search rules
 returns : tie.Need-returns
 returns c =
     let a = c.before.before.args in
-    stored-if _ (firstByte a.kind a.n ∷ []) a.out.now (lt-ltb a.n 16 (omega arith)) (omega arith)
+    stored-if _ (first_byte a.kind a.n ∷ []) a.out.now (lt-ltb a.n 16 (omega arith)) (omega arith)
 
 returns-2 : tie.Need-returns-2
 returns-2 c =
     let a = c.before.before.args in
-    misfits-if _ (firstByte a.kind a.n ∷ []) a.out.now (lt-ltb a.n 16 (omega arith)) (omega arith)
+    misfits-if _ (first_byte a.kind a.n ∷ []) a.out.now (lt-ltb a.n 16 (omega arith)) (omega arith)
 
 returns-3 : tie.Need-returns-3
 returns-3 c =
     let a = c.before.args in
-    nothing-wrote _ (firstByte a.kind a.n ∷ []) a.out.now (le-ltb a.n 16 (omega arith))
+    nothing-wrote _ (first_byte a.kind a.n ∷ []) a.out.now (le-ltb a.n 16 (omega arith))
 
 pub write-first-spec : {M : Type 1} → statement M
 write-first-spec =

@@ -12,14 +12,14 @@ use lib.ListN.{length, take, drop, length-drop}
 use Rattle.tsparql.specs.Lists.{Every}
 use Rattle.tsparql.specs.Values.{Row}
 use Rattle.tsparql.specs.Query.{Node}
-use Rattle.tsparql.specs.Table.{Fact, View, factsIn}
-use Rattle.tsparql.specs.PatternSets.{Aggregate, setRows, rowsOver, spaceOver}
-use Rattle.tsparql.specs.Evaluate.{rowLength}
-use Rattle.tsparql.specs.Writing.{nodeSize}
+use Rattle.tsparql.specs.Table.{Fact, View, facts_in}
+use Rattle.tsparql.specs.PatternSets.{Aggregate, set_rows, rows_over, space_over}
+use Rattle.tsparql.specs.Evaluate.{row_length}
+use Rattle.tsparql.specs.Writing.{node_size}
 use Rattle.tsparql.proofs.SpaceLaws.{count-space-≤}
 use Rattle.heads.specs.declared.Head.{Head}
-use Rattle.heads.specs.Answers.{nodeFound}
-use Rattle.heads.specs.Parts.{nodeOperands}
+use Rattle.heads.specs.Answers.{node_found}
+use Rattle.heads.specs.Parts.{node_operands}
 use Rattle.query.specs.Found.{NodeSound, node_of}
 use Rattle.query.proofs.ReadLaws.{part-drop}
 use Rattle.query.proofs.Operands.{Own, TwoOperands, own-found, own-sound, first-sound, second-operand, operands-few}
@@ -27,18 +27,18 @@ use Rattle.heads.proofs.node_operands.Reads as node-operands-reads
 use Rattle.query.proofs.read_own.Reads as read-own-reads
 use Rattle.rows.specs.declared.Appended.{Appended}
 use Rattle.rows.specs.declared.Appended.TheVariants as A
-use Rattle.rows.specs.RowWords.{rowsIn, RowFormed, RowsHeld, Front}
+use Rattle.rows.specs.RowWords.{rows_in, RowFormed, RowsHeld, Front}
 use Rattle.rows.proofs.RowWordLaws.{front-held}
 use Rattle.patterns.specs.Matching.{view_of}
 use Rattle.tsparql.proofs.TableLaws.{facts-sound}
-use Rattle.patterns.specs.Sets.{aggregationOf, aggregateOf}
+use Rattle.patterns.specs.Sets.{aggregation_of, aggregate_of}
 use Rattle.patterns.proofs.RecordLaws.{facts-formed}
 use Rattle.tsparql.proofs.MeanLaws.{aggregate-sound}
 use Rattle.evaluation.specs.declared.Counts.{Counts}
 use Rattle.evaluation.specs.declared.NodeRows.{NodeRows}
 use Rattle.evaluation.specs.declared.NodeRows.TheVariants as N
-use Rattle.evaluation.specs.Operators.{unaryRows}
-use Rattle.evaluation.specs.Evaluations.{countsOf, Ready, Evaluates, Applies, Combines, bothCounts}
+use Rattle.evaluation.specs.Operators.{unary_rows}
+use Rattle.evaluation.specs.Evaluations.{counts_of, Ready, Evaluates, Applies, Combines, both_counts}
 use Rattle.evaluation.proofs.AnswerLaws.{evaluated-rows, evaluated-none, evaluated-place}
 use Rattle.evaluation.proofs.OperandLaws.{set-evaluates, one-rows, right-none, two-full, two-rows, operand-none, operand-inside}
 use Rattle.evaluation.proofs.StepLaws.{rows-apply, rows-room}
@@ -235,11 +235,11 @@ abbrev v-at : (t : ℕ) → OwnRead t → View
 v-at t c = view_of (start_of t c).args.v
 
 abbrev fs-at : (t : ℕ) → OwnRead t → List Fact
-fs-at t c = factsIn (v-at t c) (table_at t c)
+fs-at t c = facts_in (v-at t c) (table_at t c)
 
 -- the aggregate
 abbrev g-at : (t : ℕ) → OwnRead t → Aggregate
-g-at t c = aggregateOf (start_of t c).args.g
+g-at t c = aggregate_of (start_of t c).args.g
 
 abbrev s-at : (t : ℕ) → OwnRead t → List ℕ
 s-at t c = (start_of t c).args.q.now
@@ -259,23 +259,23 @@ pre_at t c = (start_of t c).requires.1
 own_at : (t : ℕ) (c : OwnRead t) → Own (s-at t c) (h-at t c) (k-at t c)
 own_at t c =
     own-found (s-at t c) _ _ (pre_at t c).sound
-    (sym c.before.before.before.read-own.ensures ∙ ap nodeFound c.before.h.given.1)
+    (sym c.before.before.before.read-own.ensures ∙ ap node_found c.before.h.given.1)
 
-formed-at : (t : ℕ) (c : OwnRead t) (x : Node) → Every RowFormed (rowsOver (g-at t c) (fs-at t c) x)
+formed-at : (t : ℕ) (c : OwnRead t) (x : Node) → Every RowFormed (rows_over (g-at t c) (fs-at t c) x)
 formed-at t c x =
     let bytes = c.before.before.before.before.before.before.shared-slice-known.given in
     let seen = (pre_at t c).seen in
-    rows-formed (g-at t c) (aggregate-sound (aggregationOf (start_of t c).args.g)) (fs-at t c)
+    rows-formed (g-at t c) (aggregate-sound (aggregation_of (start_of t c).args.g)) (fs-at t c)
     (facts-formed (v-at t c) (table_at t c) seen (λ i. (bytes i).fits)) (facts-sound (v-at t c) (table_at t c) seen.passed) x
 
 -- its answer when there is no room
 abbrev NoRoom : (t : ℕ) → OwnRead t → Type 0
 NoRoom t c = (out : List ℕ) → Evaluates (g-at t c) (fs-at t c) (node_of (s-at t c)) (space-at t c) out (N.Refused 8 0)
 
-none-at : (t : ℕ) (c : NoOperand t) → nodeOperands (h-at t (leaf-of t c)) ≡ 0
+none-at : (t : ℕ) (c : NoOperand t) → node_operands (h-at t (leaf-of t c)) ≡ 0
 none-at t c = sym c.before.node-operands.ensures ∙ c.if1.true
 
-some_at : (t : ℕ) (c : HasFirst t) → nodeOperands (h-at t (own_of t c)) ≡ 0 → ⊥
+some_at : (t : ℕ) (c : HasFirst t) → node_operands (h-at t (own_of t c)) ≡ 0 → ⊥
 some_at t c z = omega (arith, c.before.node-operands.ensures, c.if1.false)
 
 -- ---- the first operand is evaluated
@@ -284,7 +284,7 @@ abbrev first-node : (t : ℕ) → OwnRead t → Node
 first-node t c = node_of (drop (k-at t c) (s-at t c))
 
 abbrev left-rows : (t : ℕ) → OwnRead t → List Row
-left-rows t c = rowsOver (g-at t c) (fs-at t c) (first-node t c)
+left-rows t c = rows_over (g-at t c) (fs-at t c) (first-node t c)
 
 abbrev first-space : (t : ℕ) → FirstDone t → List ℕ
 first-space t c = c.evaluate-operand.new.1.1.1.1.0
@@ -316,16 +316,16 @@ abbrev left-space : (t : ℕ) → FirstRows t → List ℕ
 left-space t c = first-space t (first-done-of t c)
 
 record FirstAt (t : ℕ) (c : FirstRows t) : Type 0 where
-  counts-are : left-counts t c ≡ countsOf (g-at t (rows-own t c)) (fs-at t (rows-own t c)) (first-node t (rows-own t c))
+  counts-are : left-counts t c ≡ counts_of (g-at t (rows-own t c)) (fs-at t (rows-own t c)) (first-node t (rows-own t c))
   rows_are : (left-counts t c).rows ≡ length (left-rows t (rows-own t c))
-  next-is : (left-counts t c).next ≡ nodeSize (first-node t (rows-own t c))
+  next-is : (left-counts t c).next ≡ node_size (first-node t (rows-own t c))
   room :
-      let p = rows-own t c in rowLength * spaceOver (g-at t p) (fs-at t p) (first-node t p) ≤ length (space-at t p)
-  fits : rowLength * length (left-rows t (rows-own t c)) ≤ length (space-at t (rows-own t c))
+      let p = rows-own t c in row_length * space_over (g-at t p) (fs-at t p) (first-node t p) ≤ length (space-at t p)
+  fits : row_length * length (left-rows t (rows-own t c)) ≤ length (space-at t (rows-own t c))
   front : Front (left-rows t (rows-own t c)) (left-space t c)
   held : RowsHeld (left-counts t c).rows (left-space t c)
   kept : length (left-space t c) ≡ length (space-at t (rows-own t c))
-  inside : k-at t (rows-own t c) + nodeSize (first-node t (rows-own t c)) ≤ length (s-at t (rows-own t c))
+  inside : k-at t (rows-own t c) + node_size (first-node t (rows-own t c)) ≤ length (s-at t (rows-own t c))
 
 first-at : (t : ℕ) (c : FirstRows t) → FirstAt t c
 first-at t c =
@@ -340,7 +340,7 @@ first-at t c =
       rows_are = rows;
       next-is = ap (λ n. n.next) w.counts;
       room = w.room;
-      fits = omega (arith, w.room, count-space-≤ (setRows (g-at t p) (fs-at t p)) a);
+      fits = omega (arith, w.room, count-space-≤ (set_rows (g-at t p) (fs-at t p)) a);
       front = w.front;
       held =
           subst (λ n. RowsHeld n (first-space t f)) (sym rows)
@@ -349,7 +349,7 @@ first-at t c =
       inside = operand-inside (own_at t p) (some_at t (has-first-of t f));
     }
 
-one_at : (t : ℕ) (c : OneOperand t) → nodeOperands (h-at t (rows-own t (only-rows-of t c))) ≡ 1
+one_at : (t : ℕ) (c : OneOperand t) → node_operands (h-at t (rows-own t (only-rows-of t c))) ≡ 1
 one_at t c =
     let e = has-first-of t (first-done-of t (only-rows-of t c)) in sym e.before.node-operands.ensures ∙ c.if2.true
 
@@ -360,28 +360,28 @@ one-space t c = c.operate.new.1.1.1.1.0
 one_told : (t : ℕ) (c : OneDone t)
     → let x = only-rows-of t (one_of t c) in
     let p = rows-own t x in
-    let rows = unaryRows (h-at t p) (s-at t p) (rowsIn (left-counts t x).rows (left-space t x)) in
+    let rows = unary_rows (h-at t p) (s-at t p) (rows_in (left-counts t x).rows (left-space t x)) in
     (c.operate.result ≡ A.Rows (length rows)) × Front rows (one-space t c)
 one_told t c = c.operate.ensures.one (one_at t (one_of t c))
 
 -- ---- the second operand is evaluated
 
 two_at : (t : ℕ) (c : HasSecond t)
-    → let p = rows-own t (first-rows-of t c) in TwoOperands (s-at t p) (k-at t p) (nodeSize (first-node t p))
+    → let p = rows-own t (first-rows-of t c) in TwoOperands (s-at t p) (k-at t p) (node_size (first-node t p))
 two_at t c =
     let e = has-first-of t (first-done-of t (first-rows-of t c)) in
     second-operand (own_at t (own_of t e)) (some_at t e) (λ z. omega (arith, e.before.node-operands.ensures, c.if2.false))
 
-two_is : (t : ℕ) (c : HasSecond t) → nodeOperands (h-at t (rows-own t (first-rows-of t c))) ≡ 2
+two_is : (t : ℕ) (c : HasSecond t) → node_operands (h-at t (rows-own t (first-rows-of t c))) ≡ 2
 two_is t c =
     let e = has-first-of t (first-done-of t (first-rows-of t c)) in
     omega (arith, e.before.node-operands.ensures, e.if1.left, c.if2.false, operands-few (h-at t (own_of t e)))
 
 abbrev second-node : (t : ℕ) → OwnRead t → Node
-second-node t c = node_of (drop (k-at t c + nodeSize (first-node t c)) (s-at t c))
+second-node t c = node_of (drop (k-at t c + node_size (first-node t c)) (s-at t c))
 
 abbrev right-rows : (t : ℕ) → OwnRead t → List Row
-right-rows t c = rowsOver (g-at t c) (fs-at t c) (second-node t c)
+right-rows t c = rows_over (g-at t c) (fs-at t c) (second-node t c)
 
 -- where it is read, and where the left rows end
 abbrev place_at : (t : ℕ) → FirstRows t → ℕ
@@ -420,7 +420,7 @@ second-evaluates t c =
 
 -- the left rows and the part make up the row space
 part-is : (t : ℕ) (c : FirstRows t)
-    → let p = rows-own t c in rowLength * length (left-rows t p) + length (part_at t c) ≡ length (space-at t p)
+    → let p = rows-own t c in row_length * length (left-rows t p) + length (part_at t c) ≡ length (space-at t p)
 part-is t c =
     let f = first-at t c in
     let from = part-from t c in
@@ -449,12 +449,12 @@ abbrev both-space : (t : ℕ) → SecondRows t → List ℕ
 both-space t c = mid_at t (second-done-of t c)
 
 record SecondAt (t : ℕ) (c : SecondRows t) : Type 0 where
-  counts-are : right-counts t c ≡ countsOf (g-at t (both_own t c)) (fs-at t (both_own t c)) (second-node t (both_own t c))
+  counts-are : right-counts t c ≡ counts_of (g-at t (both_own t c)) (fs-at t (both_own t c)) (second-node t (both_own t c))
   rows_are : (right-counts t c).rows ≡ length (right-rows t (both_own t c))
-  next-is : (right-counts t c).next ≡ nodeSize (second-node t (both_own t c))
+  next-is : (right-counts t c).next ≡ node_size (second-node t (both_own t c))
   room :
       let p = both_own t c in
-      rowLength * spaceOver (g-at t p) (fs-at t p) (second-node t p) ≤ length (part_at t (both_first t c))
+      row_length * space_over (g-at t p) (fs-at t p) (second-node t p) ≤ length (part_at t (both_first t c))
   front : Front (right-rows t (both_own t c)) (second-space t (second-done-of t c))
   same : length (both-space t c) ≡ length (left-space t (both_first t c))
   kept : length (both-space t c) ≡ length (space-at t (both_own t c))
@@ -495,7 +495,7 @@ module _ (t : ℕ) (c : SecondRows t) where
       (omega (arith, x.rows_are, x.fits, x.kept)) y.same
 
   -- the place behind the second operand
-  both-next : place_at t (both_first t c) + (right-counts t c).next ≡ nodeSize (node_of (s-at t (both_own t c)))
+  both-next : place_at t (both_first t c) + (right-counts t c).next ≡ node_size (node_of (s-at t (both_own t c)))
   both-next =
       let two = two_at t (has-second-of t (second-done-of t c)) in
       omega (arith, (first-at t (both_first t c)).next-is, (second_at t c).next-is, two.size)
@@ -520,7 +520,7 @@ Answering t c l r =
     let d = both-done-of t c in
     let p = both_own t (second-rows-of t d) in
     Evaluates (g-at t p) (fs-at t p) (node_of (s-at t p)) (space-at t p) (combined-space t d)
-    (N.Rows (bothCounts (h-at t p) l r c.before.c2.given.0.0 (k-at t p + l.next + r.next)))
+    (N.Rows (both_counts (h-at t p) l r c.before.c2.given.0.0 (k-at t p + l.next + r.next)))
 
 both-all : (t : ℕ) (c : Combined t)
     → let y = second-rows-of t (both-done-of t c) in Answering t c (left-counts t (both_first t y)) (right-counts t y)
@@ -536,7 +536,7 @@ both-all t c =
     two-rows (g-at t p) (fs-at t p) (s-at t p) (space-at t p) (own_at t p) _ two (both-space t y) _ (left-count t y) (right-count t y)
     f.rows_are z.rows_are z.kept (both_at t y).left-rows (both_at t y).right-rows _ _ f.room
     (part-is t (both_first t y)) z.room done in
-    let left = subst (λ l. Answering t c l (countsOf (g-at t p) (fs-at t p) (second-node t p))) (sym f.counts-are) all in
+    let left = subst (λ l. Answering t c l (counts_of (g-at t p) (fs-at t p) (second-node t p))) (sym f.counts-are) all in
     subst (Answering t c (left-counts t (both_first t y))) (sym z.counts-are) left
 
 evaluate-node-read-own-requires :
@@ -557,7 +557,7 @@ evaluate-node-returns : (t : ℕ) → evaluate-node-lts.Need-returns (evaluate-n
 evaluate-node-returns t c =
     let start = c.before.before.before.before.before.before.before in
     absurd (own-sound start.args.q.now _ start.requires.1.sound
-    (sym c.before.before.before.read-own.ensures ∙ ap nodeFound c.before.enum_told.given.1))
+    (sym c.before.before.before.read-own.ensures ∙ ap node_found c.before.enum_told.given.1))
 
 evaluate-node-node-operands-requires :
     (t : ℕ) → evaluate-node-lts.Need-node-operands-requires (evaluate-node-calls t) (evaluate-node-at t) evaluate-node.Post
@@ -774,13 +774,13 @@ evaluate-node-both-counts-requires :
 evaluate-node-both-counts-requires t c κs =
     let y = second-rows-of t (both-done-of t c.before) in
     let p = both_own t y in
-    let base = setRows (g-at t p) (fs-at t p) in
+    let base = set_rows (g-at t p) (fs-at t p) in
     let f = first-at t (both_first t y) in
     let z = second_at t y in
     let all = evaluated-rows (g-at t p) (fs-at t p) (node_of (s-at t p)) (space-at t p) _ _ (both-all t c.before) in
     let small = (pre_at t p).room in
-    let left : spaceOver (g-at t p) (fs-at t p) (first-node t p) ≤ 65535 = omega (arith, f.room) in
-    let right : spaceOver (g-at t p) (fs-at t p) (second-node t p) ≤ 65535 = omega (arith, z.room, part-is t (both_first t y)) in
+    let left : space_over (g-at t p) (fs-at t p) (first-node t p) ≤ 65535 = omega (arith, f.room) in
+    let right : space_over (g-at t p) (fs-at t p) (second-node t p) ≤ 65535 = omega (arith, z.room, part-is t (both_first t y)) in
     let size = (two_at t (has-second-of t (second-done-of t y))).size in
     let whole = (own_at t p).size-inside in (
       omega (arith, f.rows_are, f.fits),

@@ -2,9 +2,9 @@
 use Prim.Native.Nat.{◌-◌}
 use lib.ListN.{length}
 use Rattle.tsparql.specs.Query.{Node}
-use Rattle.tsparql.specs.Writing.{nodeBytes}
+use Rattle.tsparql.specs.Writing.{node_bytes}
 use Rattle.grammar.specs.Meaning.{bounded}
-use Rattle.groups.proofs.StepLaws.{next_place, next-forward}
+use Rattle.groups.proofs.StepLaws.{next_place_lem, next-forward}
 use Rattle.groups.proofs.Passing.{Making, making-first, making-none, making-end, making-on, making-skip, skips}
 use Rattle.groups.proofs.BoundLaws.{bounded-nil, bounded-over, bound-turn}
 use native.Mathlib.Omega.{arith}
@@ -13,20 +13,20 @@ use Rattle.groups.proofs.bounds.Statement.{statement}
 use Rattle.groups.proofs.bounds.Tie as tie
 
 abbrev invariant-loop : tie.invariant-loop
-invariant-loop t at out₀ from len ends i₀ n₀ out i n = Making Node bounded nodeBytes t at from len out₀ out i n
+invariant-loop t at out₀ from len ends i₀ n₀ out i n = Making Node bounded node_bytes t at from len out₀ out i n
 
 abbrev decreases-loop : tie.decreases-loop
 decreases-loop t at out₀ from len ends i₀ n₀ out i n = length t - i
 
 loop-holds : tie.Need-loop-init invariant-loop decreases-loop
-loop-holds c = making-first Node bounded nodeBytes _ _ _ _ _
+loop-holds c = making-first Node bounded node_bytes _ _ _ _ _
 
 same_length : tie.Need-same-length invariant-loop decreases-loop
 same_length c = search rules
 
 returns : tie.Need-returns invariant-loop decreases-loop
 returns c =
-    making-none Node bounded nodeBytes _ _ _ _ _ _ c.before.loop.i c.before.loop.n _ (search rules) c.before.loop.invariant
+    making-none Node bounded node_bytes _ _ _ _ _ _ c.before.loop.i c.before.loop.n _ (search rules) c.before.loop.invariant
 
 mul-w : tie.Need-overflow-mul-w invariant-loop decreases-loop
 mul-w c = search rules
@@ -40,7 +40,7 @@ same-length-2 c = search rules
 returns-2 : tie.Need-returns-2 invariant-loop decreases-loop
 returns-2 c =
     let turn = c.before.before.before.loop in
-    making-end Node bounded nodeBytes _ _ _ _ _ _ turn.i _ c.if2.true bounded-nil turn.invariant
+    making-end Node bounded node_bytes _ _ _ _ _ _ turn.i _ c.if2.true bounded-nil turn.invariant
 
 add-word : tie.Need-overflow-add-word invariant-loop decreases-loop
 add-word c = search rules
@@ -82,10 +82,10 @@ loop-again c =
     let lower = upper.before.before in
     let turn = lower.before.before.before.before.before.before.loop in
     let a = lower.before.before.before.before.before.before.before.before.before.before.args in
-    making-on Node bounded nodeBytes a.t.now a.at a.from _ _ _ _ turn.i _ _ _ call.auto.0
+    making-on Node bounded node_bytes a.t.now a.at a.from _ _ _ _ turn.i _ _ _ call.auto.0
     (bound-turn a.t.now a.from _ _ turn.i _ _ _ _ _ _ _ lower.before.before.if3.true
     lower.before.word.ensures upper.before.word2.ensures lower.thousandths.ensures.1 upper.thousandths2.ensures.1
-    call.ensures (next_place _ _ _ c.step.ensures))
+    call.ensures (next_place_lem _ _ _ c.step.ensures))
     turn.invariant
 
 step-requires-2 : tie.Need-step-requires-2 invariant-loop decreases-loop
@@ -100,7 +100,7 @@ loop-again-2 c =
     let t = c.before.before.before.before.before.before.before.before.before.args.t.now in
     let inside = c.before.before.if2.false in
     let skipped = skips bounded 69 (omega arith) bounded-over t turn.i inside c.before.if3.false in
-    making-skip Node bounded nodeBytes t _ _ _ _ _ turn.i _ _ inside (next_place _ _ _ c.step2.ensures) skipped turn.invariant
+    making-skip Node bounded node_bytes t _ _ _ _ _ turn.i _ _ inside (next_place_lem _ _ _ c.step2.ensures) skipped turn.invariant
 
 pub bounds-spec : {M : Type 1} → statement M
 bounds-spec =

@@ -7,7 +7,7 @@ use lib.Dec.{leb}
 use lib.ListN.{length}
 use Rattle.tsparql.specs.Reading.{got, require}
 use Rattle.heads.specs.declared.Head.TheVariants as H
-use Rattle.heads.specs.Parts.{boundsHead}
+use Rattle.heads.specs.Parts.{bounds_head}
 use borrow.Author.Rules.{rules}
 use Rattle.heads.proofs.bounds_head.Statement.{statement}
 use Rattle.heads.proofs.bounds_head.Tie as tie
@@ -19,7 +19,7 @@ bits-at-requires c κs = search rules
 by-bounds : (c : tie.After-bits-at)
     → let a = c.before.before.before.before.args in
     let x = c.bits_at.result in
-    boundsHead a.q.now a.n
+    bounds_head a.q.now a.n
     ≡ require (leb (x / 4096) 2000 && leb (x % 4096) 2000) (got (H.EnsureTrust (x / 4096) (x % 4096)) 4)
 by-bounds c =
     let a = c.before.before.before.before.args in

@@ -5,13 +5,13 @@ use mathlib.Core.Bool.{false}
 use lib.Dec.{eqb}
 use lib.ListN.{length}
 use Rattle.tsparql.specs.Reading.{kind_of}
-use Rattle.heads.specs.Parts.{conditionHeadRead}
+use Rattle.heads.specs.Parts.{condition_head_read}
 use borrow.Author.Rules.{rules}
 use Rattle.heads.proofs.read_condition_head.Statement.{statement}
 use Rattle.heads.proofs.read_condition_head.Tie as tie
 
 returns : tie.Need-returns
-unfolding conditionHeadRead
+unfolding condition_head_read
 returns c = rw (eq-eqb (length c.before.before.args.q.now) 0 c.if1.true)
 
 shared-slice-read-b : tie.Need-shared-slice-read-b
@@ -34,23 +34,23 @@ some : (c : tie.Else1) → eqb (length c.before.before.args.q.now) 0 ≡ false
 some c = ne_eqb (length c.before.before.args.q.now) 0 c.if1.false
 
 returns-2 : tie.Need-returns-2
-unfolding conditionHeadRead
+unfolding condition_head_read
 returns-2 c = rw (some c.before.before, c.match.keys1)
 
 returns-3 : tie.Need-returns-3
-unfolding conditionHeadRead
+unfolding condition_head_read
 returns-3 c = c.pair-head.ensures ∙ sym (rw (some c.before.before.before, c.before.match.keys2))
 
 returns-4 : tie.Need-returns-4
-unfolding conditionHeadRead
+unfolding condition_head_read
 returns-4 c = c.term-head.ensures ∙ sym (rw (some c.before.before.before, c.before.match.keys3))
 
 returns-5 : tie.Need-returns-5
-unfolding conditionHeadRead
+unfolding condition_head_read
 returns-5 c = c.pair-head2.ensures ∙ sym (rw (some c.before.before.before, c.before.match.keys4))
 
 returns-6 : tie.Need-returns-6
-unfolding conditionHeadRead
+unfolding condition_head_read
 returns-6 c =
     let s = c.before.before.before.before.before.args.q.now in
     let r = c.before.match.rest in

@@ -5,13 +5,13 @@ use mathlib.Core.Bool.{false}
 use lib.Dec.{eqb}
 use lib.ListN.{length}
 use Rattle.tsparql.specs.Reading.{kind_of}
-use Rattle.heads.specs.Parts.{nodeHeadRead}
+use Rattle.heads.specs.Parts.{node_head_read}
 use borrow.Author.Rules.{rules}
 use Rattle.heads.proofs.read_head.Statement.{statement}
 use Rattle.heads.proofs.read_head.Tie as tie
 
 returns : tie.Need-returns
-unfolding nodeHeadRead
+unfolding node_head_read
 returns c = rw (eq-eqb (length c.before.before.args.q.now) 0 c.if1.true)
 
 shared-slice-read-b : tie.Need-shared-slice-read-b
@@ -28,19 +28,19 @@ some : (c : tie.Else1) → eqb (length c.before.before.args.q.now) 0 ≡ false
 some c = ne_eqb (length c.before.before.args.q.now) 0 c.if1.false
 
 returns-2 : tie.Need-returns-2
-unfolding nodeHeadRead
+unfolding node_head_read
 returns-2 c = rw (some c.before.before, c.match.keys1)
 
 returns-3 : tie.Need-returns-3
-unfolding nodeHeadRead
+unfolding node_head_read
 returns-3 c = rw (some c.before.before, c.match.keys2)
 
 returns-4 : tie.Need-returns-4
-unfolding nodeHeadRead
+unfolding node_head_read
 returns-4 c = c.bounds-head.ensures ∙ sym (rw (some c.before.before.before, c.before.match.keys3))
 
 returns-5 : tie.Need-returns-5
-unfolding nodeHeadRead
+unfolding node_head_read
 returns-5 c =
     let s = c.before.before.before.before.before.args.q.now in
     let r = c.before.match.rest in

@@ -64,7 +64,7 @@ slice-write-words c =
     let turn = call.before.before.before.loop in
     let r = c.before.r.given in
     let forward = scanning-forward turn.invariant (search rules) call.advance.result call.advance.ensures r.0.0 r.1 in
-    omega (arith, forward.0, forward.1, turn.invariant.few, turn.invariant.roomWords)
+    omega (arith, forward.0, forward.1, turn.invariant.few, turn.invariant.room_words)
 
 add-count : tie.Need-overflow-add-count invariant-loop decreases-loop
 add-count c = search rules

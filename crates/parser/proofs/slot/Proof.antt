@@ -1,7 +1,7 @@
 -- A variable or a term. Assumes nothing.
 use mathlib.Core.Path.{ap, ◌∙◌}
 use Rattle.blocks.specs.Buffers.{buffer, appended}
-use Rattle.parser.specs.Sets.{slotBytes}
+use Rattle.parser.specs.Sets.{slot_bytes}
 use Rattle.parser.proofs.SetLaws.{bytes-variable, bytes-term}
 use borrow.Author.Rules.{rules}
 use Rattle.parser.proofs.slot.Statement.{statement}
@@ -25,7 +25,7 @@ returns c =
     let test = call.before.before in
     let a = test.before.before.before.before.args in
     let b = appended (buffer a.out.now a.n) in
-    call.append3.ensures ∙ ap b (bytes-variable _ test.if1.true ∙ ap slotBytes test.before.word.ensures)
+    call.append3.ensures ∙ ap b (bytes-variable _ test.if1.true ∙ ap slot_bytes test.before.word.ensures)
 
 append3-requires-2 : tie.Need-append3-requires-2
 append3-requires-2 c κs = search rules
@@ -39,7 +39,7 @@ returns-2 c =
     let word = call.before.before.before.word in
     let a = call.before.before.before.before.before.before.args in
     let b = appended (buffer a.out.now a.n) in
-    call.append32.ensures ∙ ap b (bytes-term _ (search rules) ∙ ap slotBytes word.ensures)
+    call.append32.ensures ∙ ap b (bytes-term _ (search rules) ∙ ap slot_bytes word.ensures)
 
 pub slot-spec : {M : Type 1} → statement M
 slot-spec =

@@ -2,13 +2,13 @@
 -- many operands are left. The answers are put together by the laws of ConditionParts. Assumes nothing.
 use mathlib.Core.Path.{◌≡◌, sym, ap, ◌∙◌}
 use native.Mathlib.Omega.{arith}
-use Rattle.tsparql.specs.Reading.{got, fault, readCondition}
-use Rattle.heads.specs.Answers.{conditionFound, faultIn}
-use Rattle.query.specs.Answers.{conditionHead, placeFound}
-use Rattle.heads.specs.Parts.{conditionHeadRead}
-use Rattle.query.specs.Parts.{mapRead, conditionsFrom}
-use Rattle.query.proofs.ReadLaws.{on-part, place_of, faultIn-≤, head-fault, operands-fault, operands-got, place-part}
-use Rattle.query.proofs.ConditionParts.{conditionsAfter, condition-parts, condition-inside}
+use Rattle.tsparql.specs.Reading.{got, fault, read_condition}
+use Rattle.heads.specs.Answers.{condition_found, fault_in}
+use Rattle.query.specs.Answers.{condition_head, place_found}
+use Rattle.heads.specs.Parts.{condition_head_read}
+use Rattle.query.specs.Parts.{map_read, conditions_from}
+use Rattle.query.proofs.ReadLaws.{on-part, place_of, fault_in-≤, head-fault, operands-fault, operands-got, place-part}
+use Rattle.query.proofs.ConditionParts.{conditions_after, condition-parts, condition-inside}
 use Rattle.query.proofs.ConditionParts.{condition-head-inside, conditions-fault, conditions-next}
 use borrow.Author.Rules.{rules}
 use lib.ListN.{length, drop}
@@ -102,9 +102,9 @@ read-condition-enum-told t c = search rules
 read-condition-returns : (t : ℕ) → read-condition-lts.Need-returns (read-condition-calls t) (read-condition-at t) read-condition.Post
 read-condition-returns t c =
     let s = c.before.before.before.before.args.q.now in
-    let bad : conditionHeadRead s ≡ fault _ =
-    sym c.before.before.read-condition-head.ensures ∙ ap conditionFound c.enum_told.given.1 in
-    c.before.before.read-condition-head.ensures ∙ bad ∙ sym (head-fault _ _ (conditionsAfter s) (condition-parts s) _ bad)
+    let bad : condition_head_read s ≡ fault _ =
+    sym c.before.before.read-condition-head.ensures ∙ ap condition_found c.enum_told.given.1 in
+    c.before.before.read-condition-head.ensures ∙ bad ∙ sym (head-fault _ _ (conditions_after s) (condition-parts s) _ bad)
 
 read-condition-condition-operands-requires :
     (t : ℕ) → read-condition-lts.Need-condition-operands-requires (read-condition-calls t) (read-condition-at t) read-condition.Post
@@ -112,9 +112,9 @@ read-condition-condition-operands-requires t c κs = search rules
 
 -- the head
 head-is : (t : ℕ) (c : read-condition-lts.After-known-told (read-condition-calls t) (read-condition-at t) read-condition.Post)
-    → conditionHeadRead c.before.before.before.before.before.args.q.now
+    → condition_head_read c.before.before.before.before.before.args.q.now
     ≡ got c.before.h.given.0.0 c.before.h.given.0.1.0
-head-is t c = sym c.before.before.before.read-condition-head.ensures ∙ ap conditionFound c.before.h.given.1
+head-is t c = sym c.before.before.before.read-condition-head.ensures ∙ ap condition_found c.before.h.given.1
 
 read-condition-read-conditions-requires :
     (t : ℕ) → read-condition-lts.Need-read-conditions-requires (read-condition-calls t) (read-condition-at t) read-condition.Post
@@ -139,33 +139,33 @@ read-condition-place-fault-requires t c κs = search rules
 -- the operands behind it
 operands-are : (t : ℕ) (c : read-condition-lts.After-read-conditions (read-condition-calls t) (read-condition-at t) read-condition.Post)
     → let own = c.before.before in
-    conditionsAfter own.before.before.before.before.before.args.q.now
+    conditions_after own.before.before.before.before.before.args.q.now
     own.before.h.given.0.0 own.before.h.given.0.1.0
-    ≡ placeFound c.read-conditions.result
+    ≡ place_found c.read-conditions.result
 operands-are t c =
     let own = c.before.before in
-    ap (λ k. conditionsFrom k own.before.h.given.0.1.0 own.before.before.before.before.before.args.q.now)
+    ap (λ k. conditions_from k own.before.h.given.0.1.0 own.before.before.before.before.before.args.q.now)
     (sym c.before.condition-operands.ensures) ∙ sym c.read-conditions.ensures
 
 read-condition-returns-2 : (t : ℕ) → read-condition-lts.Need-returns-2 (read-condition-calls t) (read-condition-at t) read-condition.Post
 read-condition-returns-2 t c =
     let conditions = c.before.before.before in
     let s = conditions .before .before .before .before .before .before .before .args .q .now in
-    let told = ap placeFound c.before.enum-told2.given.1 in
-    ap fault (c.place-fault.ensures ∙ ap faultIn told)
-    ∙ sym (operands-fault _ _ (conditionsAfter s) (condition-parts s) _ _ _ (head-is t (conditions .before .before))
+    let told = ap place_found c.before.enum-told2.given.1 in
+    ap fault (c.place-fault.ensures ∙ ap fault_in told)
+    ∙ sym (operands-fault _ _ (conditions_after s) (condition-parts s) _ _ _ (head-is t (conditions .before .before))
     (operands-are t conditions ∙ told))
 
 read-condition-returns-3 : (t : ℕ) → read-condition-lts.Need-returns-3 (read-condition-calls t) (read-condition-at t) read-condition.Post
 read-condition-returns-3 t c =
     let conditions = c.before.before.before in
     let s = conditions .before .before .before .before .before .before .before .args .q .now in
-    let told = ap placeFound c.before.e.given.1 in
-    sym (operands-got _ _ (conditionsAfter s) (condition-parts s) _ _ _ (head-is t (conditions .before .before))
+    let told = ap place_found c.before.e.given.1 in
+    sym (operands-got _ _ (conditions_after s) (condition-parts s) _ _ _ (head-is t (conditions .before .before))
     (operands-are t conditions ∙ told))
 
 read-conditions-returns : (t : ℕ) → read-conditions-lts.Need-returns (read-conditions-calls t) (read-conditions-at t) read-conditions.Post
-unfolding conditionsFrom
+unfolding conditions_from
 read-conditions-returns t c = rw c.if1.true
 
 read-conditions-sub-read-condition : (t : ℕ) → read-conditions-lts.Need-overflow-sub-read-condition (read-conditions-calls t)
@@ -202,37 +202,37 @@ Next t = read-conditions-lts.After-read-condition (read-conditions-calls t) (rea
 
 next-is : (t : ℕ) (c : Next t)
     → let a = c.before.before.before.before.args in
-    mapRead conditionHead (readCondition (drop a.at a.q.now)) ≡ conditionFound c.read-condition.result
+    map_read condition_head (read_condition (drop a.at a.q.now)) ≡ condition_found c.read-condition.result
 next-is t c =
     let a = c.before.before.before.before.args in
-    on-part (λ p. mapRead conditionHead (readCondition p)) a.q.now a.at c.read-condition.ensures
+    on-part (λ p. map_read condition_head (read_condition p)) a.q.now a.at c.read-condition.ensures
 
 -- and the place behind it
 next-inside : (t : ℕ) (c : Next t)
     → let a = c.before.before.before.before.args in
-    a.at + place_of (conditionFound c.read-condition.result) ≤ length a.q.now
+    a.at + place_of (condition_found c.read-condition.result) ≤ length a.q.now
 next-inside t c =
     let a = c.before.before.before.before.args in
-    place-part conditionHead readCondition condition-inside a.q.now a.at _ c.read-condition.ensures (omega arith)
+    place-part condition_head read_condition condition-inside a.q.now a.at _ c.read-condition.ensures (omega arith)
 
 read-conditions-add-t12 : (t : ℕ) → read-conditions-lts.Need-overflow-add-t12 (read-conditions-calls t) (read-conditions-at t) read-conditions.Post
 read-conditions-add-t12 t c =
     let here = c.before.before.before in
-    omega (arith, next-inside t here, faultIn-≤ (conditionFound here.read-condition.result), c.condition-fault.ensures)
+    omega (arith, next-inside t here, fault_in-≤ (condition_found here.read-condition.result), c.condition-fault.ensures)
 
 read-conditions-returns-2 : (t : ℕ) → read-conditions-lts.Need-returns-2 (read-conditions-calls t)
     (read-conditions-at t) read-conditions.Post
 read-conditions-returns-2 t c =
     let here = c.before.before.before in
     let a = here.before.before.before.before.args in
-    let told = ap conditionFound c.before.enum_told.given.1 in
-    ap (λ p. fault (a.at + p)) (c.condition-fault.ensures ∙ ap faultIn told)
+    let told = ap condition_found c.before.enum_told.given.1 in
+    ap (λ p. fault (a.at + p)) (c.condition-fault.ensures ∙ ap fault_in told)
     ∙ sym (conditions-fault a.q.now a.n a.at _ (omega arith) (next-is t here ∙ told))
 
 read-conditions-add-read-conditions : (t : ℕ) → read-conditions-lts.Need-overflow-add-read-conditions (read-conditions-calls t)
     (read-conditions-at t) read-conditions.Post
 read-conditions-add-read-conditions t c =
-    omega (arith, next-inside t c.before.before.before, ap place_of (ap conditionFound c.before.c.given.1))
+    omega (arith, next-inside t c.before.before.before, ap place_of (ap condition_found c.before.c.given.1))
 
 read-conditions-sub-read-conditions : (t : ℕ) → read-conditions-lts.Need-overflow-sub-read-conditions (read-conditions-calls t)
     (read-conditions-at t) read-conditions.Post
@@ -242,7 +242,7 @@ read-conditions-read-conditions-requires :
     (t : ℕ) → read-conditions-lts.Need-read-conditions-requires (read-conditions-calls t) (read-conditions-at t) read-conditions.Post
 read-conditions-read-conditions-requires t c κs =
     let here = c.before.before.before in
-    let k = ap place_of (ap conditionFound c.before.c.given.1) in
+    let k = ap place_of (ap condition_found c.before.c.given.1) in
     (omega (arith, here.before.before.before.before.requires.0), (omega arith, omega (arith, next-inside t here, k), omega arith))
 
 read-conditions-returns-3 : (t : ℕ) → read-conditions-lts.Need-returns-3 (read-conditions-calls t)
@@ -250,7 +250,7 @@ read-conditions-returns-3 : (t : ℕ) → read-conditions-lts.Need-returns-3 (re
 read-conditions-returns-3 t c =
     let here = c.before.before.before.before in
     let a = here.before.before.before.before.args in
-    let found = next-is t here ∙ ap conditionFound c.before.before.c.given.1 in
+    let found = next-is t here ∙ ap condition_found c.before.before.c.given.1 in
     c.read-conditions.ensures ∙ sym (conditions-next a.q.now a.n a.at _ _ (omega arith) found)
 
 pub +read-condition-read-conditions-spec : {M : Type 1} → statement M

@@ -3,11 +3,11 @@
 use mathlib.Core.Path.{◌≡◌, sym, ap, ◌∙◌}
 use native.Mathlib.Omega.{arith}
 use Rattle.tsparql.specs.Reading.{got, fault, read_node}
-use Rattle.heads.specs.Answers.{nodeFound, faultIn}
-use Rattle.query.specs.Answers.{nodeHead, placeFound}
-use Rattle.query.specs.Parts.{mapRead, ownRead, nodesFrom}
-use Rattle.query.proofs.ReadLaws.{on-part, place_of, faultIn-≤, head-fault, operands-fault, operands-got, place-part}
-use Rattle.query.proofs.NodeParts.{operandsFrom, node-parts, node-inside, own-inside, nodes-fault, nodes-next}
+use Rattle.heads.specs.Answers.{node_found, fault_in}
+use Rattle.query.specs.Answers.{node_head, place_found}
+use Rattle.query.specs.Parts.{map_read, own_read, nodes_from}
+use Rattle.query.proofs.ReadLaws.{on-part, place_of, fault_in-≤, head-fault, operands-fault, operands-got, place-part}
+use Rattle.query.proofs.NodeParts.{operands_from, node-parts, node-inside, own-inside, nodes-fault, nodes-next}
 use Rattle.query.proofs.Operands.{operands-few}
 use borrow.Author.Rules.{rules}
 use lib.ListN.{length, drop}
@@ -76,16 +76,16 @@ read-node-enum-told t c = search rules
 read-node-returns : (t : ℕ) → read-node-lts.Need-returns (read-node-calls t) (read-node-at t) read-node.Post
 read-node-returns t c =
     let s = c.before.before.before.before.args.q.now in
-    let bad : ownRead s ≡ fault _ = sym c.before.before.read-own.ensures ∙ ap nodeFound c.enum_told.given.1 in
-    c.before.before.read-own.ensures ∙ bad ∙ sym (head-fault _ _ (operandsFrom s) (node-parts s) _ bad)
+    let bad : own_read s ≡ fault _ = sym c.before.before.read-own.ensures ∙ ap node_found c.enum_told.given.1 in
+    c.before.before.read-own.ensures ∙ bad ∙ sym (head-fault _ _ (operands_from s) (node-parts s) _ bad)
 
 read-node-node-operands-requires : (t : ℕ) → read-node-lts.Need-node-operands-requires (read-node-calls t) (read-node-at t) read-node.Post
 read-node-node-operands-requires t c κs = search rules
 
 -- the node's own part
 own_is : (t : ℕ) (c : read-node-lts.After-known-told (read-node-calls t) (read-node-at t) read-node.Post)
-    → ownRead c.before.before.before.before.before.args.q.now ≡ got c.before.h.given.0.0 c.before.h.given.0.1.0
-own_is t c = sym c.before.before.before.read-own.ensures ∙ ap nodeFound c.before.h.given.1
+    → own_read c.before.before.before.before.before.args.q.now ≡ got c.before.h.given.0.0 c.before.h.given.0.1.0
+own_is t c = sym c.before.before.before.read-own.ensures ∙ ap node_found c.before.h.given.1
 
 read-node-read-nodes-requires : (t : ℕ) → read-node-lts.Need-read-nodes-requires (read-node-calls t) (read-node-at t) read-node.Post
 read-node-read-nodes-requires t c κs =
@@ -107,30 +107,30 @@ read-node-place-fault-requires t c κs = search rules
 -- the operands behind it
 operands-are : (t : ℕ) (c : read-node-lts.After-read-nodes (read-node-calls t) (read-node-at t) read-node.Post)
     → let own = c.before.before in
-    operandsFrom own.before.before.before.before.before.args.q.now own.before.h.given.0.0 own.before.h.given.0.1.0
-    ≡ placeFound c.read-nodes.result
+    operands_from own.before.before.before.before.before.args.q.now own.before.h.given.0.0 own.before.h.given.0.1.0
+    ≡ place_found c.read-nodes.result
 operands-are t c =
     let own = c.before.before in
-    ap (λ k. nodesFrom k own.before.h.given.0.1.0 own.before.before.before.before.before.args.q.now)
+    ap (λ k. nodes_from k own.before.h.given.0.1.0 own.before.before.before.before.before.args.q.now)
     (sym c.before.node-operands.ensures) ∙ sym c.read-nodes.ensures
 
 read-node-returns-2 : (t : ℕ) → read-node-lts.Need-returns-2 (read-node-calls t) (read-node-at t) read-node.Post
 read-node-returns-2 t c =
     let nodes = c.before.before.before in
     let s = nodes .before .before .before .before .before .before .before .args .q .now in
-    let told = ap placeFound c.before.enum-told2.given.1 in
-    ap fault (c.place-fault.ensures ∙ ap faultIn told)
-    ∙ sym (operands-fault _ _ (operandsFrom s) (node-parts s) _ _ _ (own_is t (nodes .before .before)) (operands-are t nodes ∙ told))
+    let told = ap place_found c.before.enum-told2.given.1 in
+    ap fault (c.place-fault.ensures ∙ ap fault_in told)
+    ∙ sym (operands-fault _ _ (operands_from s) (node-parts s) _ _ _ (own_is t (nodes .before .before)) (operands-are t nodes ∙ told))
 
 read-node-returns-3 : (t : ℕ) → read-node-lts.Need-returns-3 (read-node-calls t) (read-node-at t) read-node.Post
 read-node-returns-3 t c =
     let nodes = c.before.before.before in
     let s = nodes .before .before .before .before .before .before .before .args .q .now in
-    let told = ap placeFound c.before.e.given.1 in
-    sym (operands-got _ _ (operandsFrom s) (node-parts s) _ _ _ (own_is t (nodes .before .before)) (operands-are t nodes ∙ told))
+    let told = ap place_found c.before.e.given.1 in
+    sym (operands-got _ _ (operands_from s) (node-parts s) _ _ _ (own_is t (nodes .before .before)) (operands-are t nodes ∙ told))
 
 read-nodes-returns : (t : ℕ) → read-nodes-lts.Need-returns (read-nodes-calls t) (read-nodes-at t) read-nodes.Post
-unfolding nodesFrom
+unfolding nodes_from
 read-nodes-returns t c = rw c.if1.true
 
 read-nodes-sub-read-node : (t : ℕ) → read-nodes-lts.Need-overflow-sub-read-node (read-nodes-calls t) (read-nodes-at t) read-nodes.Post
@@ -160,35 +160,35 @@ Next t = read-nodes-lts.After-read-node (read-nodes-calls t) (read-nodes-at t) r
 
 next-is : (t : ℕ) (c : Next t)
     → let a = c.before.before.before.before.args in
-    mapRead nodeHead (read_node (drop a.at a.q.now)) ≡ nodeFound c.read-node.result
+    map_read node_head (read_node (drop a.at a.q.now)) ≡ node_found c.read-node.result
 next-is t c =
     let a = c.before.before.before.before.args in
-    on-part (λ p. mapRead nodeHead (read_node p)) a.q.now a.at c.read-node.ensures
+    on-part (λ p. map_read node_head (read_node p)) a.q.now a.at c.read-node.ensures
 
 -- and the place behind it
 next-inside : (t : ℕ) (c : Next t)
     → let a = c.before.before.before.before.args in
-    a.at + place_of (nodeFound c.read-node.result) ≤ length a.q.now
+    a.at + place_of (node_found c.read-node.result) ≤ length a.q.now
 next-inside t c =
     let a = c.before.before.before.before.args in
-    place-part nodeHead read_node node-inside a.q.now a.at _ c.read-node.ensures (omega arith)
+    place-part node_head read_node node-inside a.q.now a.at _ c.read-node.ensures (omega arith)
 
 read-nodes-add-t12 : (t : ℕ) → read-nodes-lts.Need-overflow-add-t12 (read-nodes-calls t) (read-nodes-at t) read-nodes.Post
 read-nodes-add-t12 t c =
     let here = c.before.before.before in
-    omega (arith, next-inside t here, faultIn-≤ (nodeFound here.read-node.result), c.node-fault.ensures)
+    omega (arith, next-inside t here, fault_in-≤ (node_found here.read-node.result), c.node-fault.ensures)
 
 read-nodes-returns-2 : (t : ℕ) → read-nodes-lts.Need-returns-2 (read-nodes-calls t) (read-nodes-at t) read-nodes.Post
 read-nodes-returns-2 t c =
     let here = c.before.before.before in
     let a = here.before.before.before.before.args in
-    let told = ap nodeFound c.before.enum_told.given.1 in
-    ap (λ p. fault (a.at + p)) (c.node-fault.ensures ∙ ap faultIn told)
+    let told = ap node_found c.before.enum_told.given.1 in
+    ap (λ p. fault (a.at + p)) (c.node-fault.ensures ∙ ap fault_in told)
     ∙ sym (nodes-fault a.q.now a.n a.at _ (omega arith) (next-is t here ∙ told))
 
 read-nodes-add-read-nodes : (t : ℕ) → read-nodes-lts.Need-overflow-add-read-nodes (read-nodes-calls t) (read-nodes-at t) read-nodes.Post
 read-nodes-add-read-nodes t c =
-    omega (arith, next-inside t c.before.before.before, ap place_of (ap nodeFound c.before.c.given.1))
+    omega (arith, next-inside t c.before.before.before, ap place_of (ap node_found c.before.c.given.1))
 
 read-nodes-sub-read-nodes : (t : ℕ) → read-nodes-lts.Need-overflow-sub-read-nodes (read-nodes-calls t) (read-nodes-at t) read-nodes.Post
 read-nodes-sub-read-nodes t c = search rules
@@ -196,14 +196,14 @@ read-nodes-sub-read-nodes t c = search rules
 read-nodes-read-nodes-requires : (t : ℕ) → read-nodes-lts.Need-read-nodes-requires (read-nodes-calls t) (read-nodes-at t) read-nodes.Post
 read-nodes-read-nodes-requires t c κs =
     let here = c.before.before.before in
-    let k = ap place_of (ap nodeFound c.before.c.given.1) in
+    let k = ap place_of (ap node_found c.before.c.given.1) in
     (omega (arith, here.before.before.before.before.requires.0), (omega arith, omega (arith, next-inside t here, k), omega arith))
 
 read-nodes-returns-3 : (t : ℕ) → read-nodes-lts.Need-returns-3 (read-nodes-calls t) (read-nodes-at t) read-nodes.Post
 read-nodes-returns-3 t c =
     let here = c.before.before.before.before in
     let a = here.before.before.before.before.args in
-    let found = next-is t here ∙ ap nodeFound c.before.before.c.given.1 in
+    let found = next-is t here ∙ ap node_found c.before.before.c.given.1 in
     c.read-nodes.ensures ∙ sym (nodes-next a.q.now a.n a.at _ _ (omega arith) found)
 
 pub +read-node-read-nodes-spec : {M : Type 1} → statement M

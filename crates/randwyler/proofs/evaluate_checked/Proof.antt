@@ -4,13 +4,13 @@ use mathlib.Core.List.{List}
 use Prim.Native.Nat.{ℕ}
 use borrow.Author.Rules.{rules}
 use lib.ListN.{length}
-use Rattle.tsparql.specs.Table.{factsIn}
+use Rattle.tsparql.specs.Table.{facts_in}
 use Rattle.query.specs.Found.{node_of}
 use Rattle.patterns.specs.Matching.{view_of}
-use Rattle.patterns.specs.Sets.{aggregateOf}
+use Rattle.patterns.specs.Sets.{aggregate_of}
 use Rattle.evaluation.specs.declared.QueryRows.{QueryRows}
 use Rattle.evaluation.specs.Evaluations.{Answers}
-use Rattle.randwyler.specs.Answers.{tallyIn}
+use Rattle.randwyler.specs.Answers.{tally_in}
 use Rattle.randwyler.proofs.Evaluations.{ready-seen, ready-node, counted}
 use Rattle.randwyler.proofs.evaluate_checked.Statement.{statement}
 use Rattle.randwyler.proofs.evaluate_checked.Tie as tie
@@ -24,11 +24,11 @@ out_at c = c.answer.new.1.1.1.0
 
 answers_at : (c : tie.After-answer) {r : QueryRows} → c.answer.result ≡ r
     → let a = (start_of c).args in
-    Answers (aggregateOf a.g) (factsIn (view_of a.view) a.table.now) (node_of a.query.now) (length a.space.now) (out_at c) r
+    Answers (aggregate_of a.g) (facts_in (view_of a.view) a.table.now) (node_of a.query.now) (length a.space.now) (out_at c) r
 answers_at c e =
     let a = (start_of c).args in
-    let facts = factsIn (view_of a.view) a.table.now in
-    subst (λ r. Answers (aggregateOf a.g) facts (node_of a.query.now) (length a.space.now) (out_at c) r) e c.answer.ensures
+    let facts = facts_in (view_of a.view) a.table.now in
+    subst (λ r. Answers (aggregate_of a.g) facts (node_of a.query.now) (length a.space.now) (out_at c) r) e c.answer.ensures
 
 answer-requires : tie.Need-answer-requires
 answer-requires c κs =
@@ -57,7 +57,7 @@ returns c =
     let x = c.before.before.before.before.before.before in
     let a = (start_of x).args in
     c.evaluation-refused.ensures (out_at x)
-    ∙ counted (aggregateOf a.g) (view_of a.view) a.table.now a.query.now (tallyIn a.tally) a.space.now (out_at x) _
+    ∙ counted (aggregate_of a.g) (view_of a.view) a.table.now a.query.now (tally_in a.tally) a.space.now (out_at x) _
     (start_of x).requires (answers_at x c.before.before.number.given.1)
 
 same-length-2 : tie.Need-same-length-2
@@ -68,7 +68,7 @@ returns-2 c =
     let x = c.before.before.before.before.before.before in
     let a = (start_of x).args in
     rw c.with-answered.ensures
-    (counted (aggregateOf a.g) (view_of a.view) a.table.now a.query.now (tallyIn a.tally) a.space.now (out_at x) _
+    (counted (aggregate_of a.g) (view_of a.view) a.table.now a.query.now (tally_in a.tally) a.space.now (out_at x) _
     (start_of x).requires (answers_at x c.before.before.rows.given.1))
 
 pub evaluate-checked-spec : {M : Type 1} → statement M

@@ -1,7 +1,7 @@
 -- By the answer of the check of both, and that to a checked query. Assumes nothing.
 use mathlib.Core.Path.{◌∙◌}
 use borrow.Author.Rules.{rules}
-use Rattle.randwyler.specs.Answers.{chosen, tallyIn}
+use Rattle.randwyler.specs.Answers.{chosen, tally_in}
 use Rattle.randwyler.proofs.Checks.{checked-ready}
 use Rattle.randwyler.proofs.Evaluations.{evaluate-refuses, evaluate-answers}
 use Rattle.randwyler.proofs.randwyler_evaluate.Statement.{statement}
@@ -32,7 +32,7 @@ returns : tie.Need-returns
 returns c =
     let a = c.before.before.before.before.before.before.before.before.before.args in
     c.evaluation-refused.ensures a.space.now
-    ∙ evaluate-refuses a.table.now a.query.now (chosen a.mean) a.space.now (tallyIn a.tally)
+    ∙ evaluate-refuses a.table.now a.query.now (chosen a.mean) a.space.now (tally_in a.tally)
     (rw c.before.before.c.given.1 at c.before.before.before.before.check_both.ensures)
 
 same_length : tie.Need-same-length
@@ -42,7 +42,7 @@ returns-2 : tie.Need-returns-2
 returns-2 c =
     let k = c.before.before.before.before.before in
     let a = k.before.before.before.before.before.before.before.args in
-    evaluate-answers _ a.table.now a.query.now (chosen a.mean) a.space.now (tallyIn a.tally)
+    evaluate-answers _ a.table.now a.query.now (chosen a.mean) a.space.now (tally_in a.tally)
     (checked-ready a.table.now a.query.now _ (rw k.c2.given.1 at k.before.before.check_both.ensures))
     k.before.before.before.chosen-aggregation.ensures _ c.before.before.evaluate-checked.ensures
 

@@ -4,7 +4,7 @@ use native.Mathlib.Omega.{arith}
 use Rattle.table.specs.declared.View.{View}
 use Rattle.patterns.specs.Matching.{view_of}
 use Rattle.randwyler.specs.declared.CheckAnswer.TheVariants.{Sound}
-use Rattle.randwyler.specs.Answers.{chosen, tallyIn, Ready}
+use Rattle.randwyler.specs.Answers.{chosen, tally_in, Ready}
 use Rattle.randwyler.proofs.Checks.{checked-ready}
 use Rattle.randwyler.proofs.TotalsAnswers.{call-check-refuses, call-variable, call-answered}
 use borrow.Author.Rules.{rules}
@@ -41,7 +41,7 @@ returns : tie.Need-returns
 returns c =
     let a = (start_of c.before.before.before.before.before).args in
     c.totals-refused2.ensures a.space.now a.output.now
-    ∙ call-variable _ a.table.now a.query.now (chosen a.mean) a.variable a.space.now a.output.now (tallyIn a.tally)
+    ∙ call-variable _ a.table.now a.query.now (chosen a.mean) a.variable a.space.now a.output.now (tally_in a.tally)
     (ready_at c.before.before.before.before.before c.before.before.before.c2.given.1) c.before.if1.true
 
 totals-checked-requires : tie.Need-totals-checked-requires
@@ -54,7 +54,7 @@ returns-2 c =
     let a = (start_of x).args in
     c.totals-refused.ensures a.space.now a.output.now
     ∙ call-check-refuses a.table.now a.query.now (chosen a.mean) a.variable a.space.now a.output.now
-    (tallyIn a.tally) (rw c.before.before.c.given.1 at x.check_both.ensures)
+    (tally_in a.tally) (rw c.before.before.c.given.1 at x.check_both.ensures)
 
 same_length : tie.Need-same-length
 same_length c = search rules
@@ -68,7 +68,7 @@ returns-3 c =
     let x = head.before.before.before.before.before.before.before in
     let a = (start_of x).args in
     head.totals-checked.ensures
-    ∙ call-answered _ a.table.now a.query.now (chosen a.mean) a.variable a.space.now a.output.now (tallyIn a.tally)
+    ∙ call-answered _ a.table.now a.query.now (chosen a.mean) a.variable a.space.now a.output.now (tally_in a.tally)
     (ready_at x head.before.before.before.before.before.c2.given.1) x.before.chosen-aggregation.ensures
     head.before.before.before.if1.false
 

@@ -5,16 +5,16 @@ use Prim.Native.Nat.{ℕ}
 use native.Mathlib.Omega.{arith}
 use lib.ListN.{length}
 use Rattle.tsparql.specs.Lists.{Every}
-use Rattle.tsparql.specs.Table.{Fact, factsIn}
-use Rattle.tsparql.specs.PatternSets.{Aggregate, rowsOver}
-use Rattle.tsparql.specs.Reading.{queryNode}
+use Rattle.tsparql.specs.Table.{Fact, facts_in}
+use Rattle.tsparql.specs.PatternSets.{Aggregate, rows_over}
+use Rattle.tsparql.specs.Reading.{query_node}
 use Rattle.query.specs.Found.{node_of}
 use Rattle.rows.specs.RowWords.{RowFormed}
 use Rattle.patterns.specs.Matching.{view_of}
-use Rattle.patterns.specs.Sets.{aggregationOf, aggregateOf}
+use Rattle.patterns.specs.Sets.{aggregation_of, aggregate_of}
 use Rattle.evaluation.specs.declared.QueryRows.{QueryRows}
 use Rattle.evaluation.specs.Evaluations.{Answers}
-use Rattle.randwyler.specs.Answers.{tallyIn}
+use Rattle.randwyler.specs.Answers.{tally_in}
 use Rattle.randwyler.proofs.Evaluations.{ready-seen, ready-node}
 use Rattle.randwyler.proofs.AnsweredRows.{ready-answers, ready-formed, answered-held, answered-few}
 use Rattle.randwyler.proofs.TotalsAnswers.{totals-refused, totals-short, totals-written}
@@ -30,26 +30,26 @@ abbrev out_at : tie.After-answer → List ℕ
 out_at c = c.answer.new.1.1.1.0
 
 abbrev facts-of : tie.After-answer → List Fact
-facts-of c = factsIn (view_of (start_of c).args.view) (start_of c).args.table.now
+facts-of c = facts_in (view_of (start_of c).args.view) (start_of c).args.table.now
 
 -- the aggregate
 abbrev g-of : tie.After-answer → Aggregate
-g-of c = aggregateOf (start_of c).args.g
+g-of c = aggregate_of (start_of c).args.g
 
 answers_at : (c : tie.After-answer) {r : QueryRows} → c.answer.result ≡ r
     → let a = (start_of c).args in
-    Answers (g-of c) (facts-of c) (queryNode a.query.now) (length a.space.now) (out_at c) r
+    Answers (g-of c) (facts-of c) (query_node a.query.now) (length a.space.now) (out_at c) r
 answers_at c {r} e =
     let a = (start_of c).args in
-    ready-answers (aggregationOf a.g) (view_of a.view) a.table.now a.query.now (start_of c).requires.0
+    ready-answers (aggregation_of a.g) (view_of a.view) a.table.now a.query.now (start_of c).requires.0
     (subst (λ (q : QueryRows). Answers (g-of c) (facts-of c) (node_of a.query.now) (length a.space.now) (out_at c) q) e
     c.answer.ensures)
 
-formed-at : (c : tie.After-answer) → Every RowFormed (rowsOver (g-of c) (facts-of c) (queryNode (start_of c).args.query.now))
+formed-at : (c : tie.After-answer) → Every RowFormed (rows_over (g-of c) (facts-of c) (query_node (start_of c).args.query.now))
 formed-at c =
     let a = (start_of c).args in
     let bytes = c.before.before.before.before.before.shared-slice-known.given in
-    ready-formed (aggregationOf a.g) (view_of a.view) a.table.now a.query.now (start_of c).requires.0 (λ i. (bytes i).fits)
+    ready-formed (aggregation_of a.g) (view_of a.view) a.table.now a.query.now (start_of c).requires.0 (λ i. (bytes i).fits)
 
 answer-requires : tie.Need-answer-requires
 answer-requires c κs =
@@ -91,7 +91,7 @@ returns c =
     let a = (start_of x).args in
     let e = answers_at x c.before.before.before.before.before.before.before.before.a2.given.1 in
     c.totals-refused2.ensures (out_at x) _
-    ∙ totals-short a.variable (tallyIn a.tally) a.output.now (formed-at x) e
+    ∙ totals-short a.variable (tally_in a.tally) a.output.now (formed-at x) e
     c.before.before.before.before.total-rows.ensures (omega arith)
 
 with-answered-requires : tie.Need-with-answered-requires
@@ -105,7 +105,7 @@ returns-2 c =
     let x = c.before.before.before.before.before.before in
     let a = (start_of x).args in
     c.totals-refused.ensures (out_at x) a.output.now
-    ∙ totals-refused (g-of x) (facts-of x) (queryNode a.query.now) a.variable (length a.space.now) (tallyIn a.tally)
+    ∙ totals-refused (g-of x) (facts-of x) (query_node a.query.now) a.variable (length a.space.now) (tally_in a.tally)
     (out_at x) a.output.now (answers_at x c.before.before.a.given.1)
 
 same-length-4 : tie.Need-same-length-4
@@ -120,7 +120,7 @@ returns-3 c =
     let a = (start_of x).args in
     let e = answers_at x c.before.before.before.before.before.before.before.before.a2.given.1 in
     rw c.with-answered.ensures
-    (totals-written a.variable (tallyIn a.tally) a.output.now (formed-at x) e
+    (totals-written a.variable (tally_in a.tally) a.output.now (formed-at x) e
     c.before.before.before.before.total-rows.ensures (omega arith))
 
 pub totals-checked-spec : {M : Type 1} → statement M

@@ -1,8 +1,8 @@
 -- By the refusal's number. Assumes nothing.
 use borrow.Author.Rules.{rules}
-use Rattle.tsparql.specs.Strikes.{countsLine}
-use Rattle.rows.specs.RowWords.{rowsIn}
-use Rattle.randwyler.specs.Answers.{evaluatedIn}
+use Rattle.tsparql.specs.Strikes.{counts_line}
+use Rattle.rows.specs.RowWords.{rows_in}
+use Rattle.randwyler.specs.Answers.{evaluated_in}
 use Rattle.text.proofs.WritingLaws.{puts_then}
 use Rattle.report.proofs.ReportLaws.{report-answered, report-refused}
 use Rattle.report.proofs.put_report.Statement.{statement}
@@ -19,7 +19,7 @@ returns c =
     let refused = c.before.before in
     let a = refused.before.before.before.before.before.args in
     let space = a.space.now in
-    rw (report-refused (evaluatedIn a.e space).evaluated (rowsIn a.e.rows space) refused.before.before.if1.true)
+    rw (report-refused (evaluated_in a.e space).evaluated (rows_in a.e.rows space) refused.before.before.if1.true)
     refused.put-refusal.ensures
 
 put-counts-requires : tie.Need-put-counts-requires
@@ -37,13 +37,13 @@ same-length-2 : tie.Need-same-length-2
 same-length-2 c = search rules
 
 returns-2 : tie.Need-returns-2
-unfolding countsLine
+unfolding counts_line
 returns-2 c =
     let rows = c.before.before in
     let counts = rows.before.before.before.before in
     let a = counts.before.before.before.before.before.args in
     let space = a.space.now in
-    rw (report-answered (evaluatedIn a.e space).evaluated (rowsIn a.e.rows space) counts.before.before.if1.false)
+    rw (report-answered (evaluated_in a.e space).evaluated (rows_in a.e.rows space) counts.before.before.if1.false)
     (puts_then counts.put-counts.ensures rows.put-rows.ensures)
 
 pub put-report-spec : {M : Type 1} → statement M

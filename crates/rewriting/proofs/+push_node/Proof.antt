@@ -10,11 +10,11 @@ use borrow.Fn.PlainCycle.{Measures, is, falls, and}
 use borrow.Rule.Slice.PartMut.{put_mid}
 use lib.ListN.{length, take, drop, length-append}
 use Rattle.tsparql.specs.Push.{TrustBound, push}
-use Rattle.tsparql.specs.Writing.{nodeBytes, nodeSize}
+use Rattle.tsparql.specs.Writing.{node_bytes, node_size}
 use Rattle.tsparql.specs.WellFormed.{Bytes}
 use Rattle.heads.specs.declared.Head.{Head}
-use Rattle.heads.specs.Answers.{nodeFound}
-use Rattle.heads.specs.Parts.{nodeOperands}
+use Rattle.heads.specs.Answers.{node_found}
+use Rattle.heads.specs.Parts.{node_operands}
 use Rattle.query.specs.Found.{node_of}
 use Rattle.encoding.specs.Writers.{Wrote}
 use Rattle.query.proofs.Operands.{Own, TwoOperands, own-found, own-sound, no_operand, one-operand, first-sound, second-operand}
@@ -23,7 +23,7 @@ use Rattle.rewriting.proofs.fault_refused.Reads as fault-refused-reads
 use Rattle.heads.proofs.node_operands.Reads as node-operands-reads
 use Rattle.query.proofs.read_own.Reads as read-own-reads
 use Rattle.rewriting.specs.declared.Pushed.TheVariants as P
-use Rattle.bounds.specs.Bounds.{boundIn, firstBound, secondBound, ownPush, ownSize}
+use Rattle.bounds.specs.Bounds.{bound_in, first_bound, second_bound, own_push, own_size}
 use Rattle.rewriting.specs.Answers.{Pushable}
 use Rattle.rewriting.proofs.PushSteps.{answered-part, never-refused, push-inside, own-inside, own-taken, first-inside, size-two}
 use Rattle.rewriting.proofs.PushSteps.{pushed_none, pushed-one, pushed-two}
@@ -146,7 +146,7 @@ abbrev s-at : (t : ℕ) → OwnRead t → List ℕ
 s-at t c = (start_of t c).args.q.now
 
 abbrev b_at : (t : ℕ) → OwnRead t → TrustBound
-b_at t c = boundIn (start_of t c).args.b
+b_at t c = bound_in (start_of t c).args.b
 
 abbrev out_at : (t : ℕ) → OwnRead t → List ℕ
 out_at t c = (start_of t c).args.out.now
@@ -166,18 +166,18 @@ bytes-at t c i = (c.before.before.before.before.before.shared-slice-known.given 
 own_at : (t : ℕ) (c : OwnRead t) → Own (s-at t c) (h-at t c) (k-at t c)
 own_at t c =
     own-found (s-at t c) _ _ (pre_at t c).sound
-    (sym c.before.before.before.read-own.ensures ∙ ap nodeFound c.before.h.given.1)
+    (sym c.before.before.before.read-own.ensures ∙ ap node_found c.before.h.given.1)
 
 -- the sizes of the node and of its push
 abbrev size-at : (t : ℕ) → OwnRead t → ℕ
-size-at t c = nodeSize (node_of (s-at t c))
+size-at t c = node_size (node_of (s-at t c))
 
 abbrev pushed-size-at : (t : ℕ) → OwnRead t → ℕ
-pushed-size-at t c = nodeSize (push (b_at t c) (node_of (s-at t c)))
+pushed-size-at t c = node_size (push (b_at t c) (node_of (s-at t c)))
 
 -- its part of the push, how long it is, and the output with it
 abbrev own-bytes-at : (t : ℕ) → OwnRead t → List ℕ
-own-bytes-at t c = ownPush (h-at t c) (b_at t c) (take (k-at t c) (s-at t c))
+own-bytes-at t c = own_push (h-at t c) (b_at t c) (take (k-at t c) (s-at t c))
 
 abbrev own-end-at : (t : ℕ) → OwnWritten t → ℕ
 own-end-at t c = c.write-own.result
@@ -191,7 +191,7 @@ own-fits t c =
     omega (arith, own-taken (own_at t p) (b_at t p), own-inside (own_at t p) (b_at t p), (pre_at t p).fits)
 
 own-size-at : (t : ℕ) (c : OwnWritten t)
-    → own-end-at t c ≡ ownSize (h-at t (read_of t c)) (b_at t (read_of t c)) (k-at t (read_of t c))
+    → own-end-at t c ≡ own_size (h-at t (read_of t c)) (b_at t (read_of t c)) (k-at t (read_of t c))
 own-size-at t c =
     let p = read_of t c in
     ◌∙◌ {b = length (own-bytes-at t p)} c.write-own.ensures.size (own-taken (own_at t p) (b_at t p))
@@ -201,7 +201,7 @@ own-long t c = wrote-long (own-bytes-at t (read_of t c)) _ _ _ c.write-own.ensur
 
 -- ---- the first operand
 
-some_at : (t : ℕ) (c : HasFirst t) → nodeOperands (h-at t (read_of t (written_of t c))) ≡ 0 → ⊥
+some_at : (t : ℕ) (c : HasFirst t) → node_operands (h-at t (read_of t (written_of t c))) ≡ 0 → ⊥
 some_at t c z = omega (arith, c.before.node-operands.ensures, c.if1.false)
 
 first-never : (t : ℕ) (c : FirstPushed t) {n p : ℕ} → c.push-node.result ≡ P.Refused n p → ⊥
@@ -212,10 +212,10 @@ first-never t c e =
 
 -- its size and its push
 abbrev first-size-at : (t : ℕ) → OwnRead t → ℕ
-first-size-at t c = nodeSize (node_of (drop (k-at t c) (s-at t c)))
+first-size-at t c = node_size (node_of (drop (k-at t c) (s-at t c)))
 
 abbrev first-bytes-at : (t : ℕ) → OwnRead t → List ℕ
-first-bytes-at t c = nodeBytes (push (firstBound (h-at t c) (b_at t c)) (node_of (drop (k-at t c) (s-at t c))))
+first-bytes-at t c = node_bytes (push (first_bound (h-at t c) (b_at t c)) (node_of (drop (k-at t c) (s-at t c))))
 
 -- the sizes that were answered, of the push and of the operand
 abbrev left_at : (t : ℕ) → FirstFound t → ℕ
@@ -240,7 +240,7 @@ record FirstAt (t : ℕ) (c : FirstFound t) : Type 0 where
   left_is : left_at t c ≡ length (first-bytes-at t (first_read t c))
   next-is : next-at t c ≡ first-size-at t (first_read t c)
   inside : (k-at t (first_read t c) + first-size-at t (first_read t c) ≤ length (s-at t (first_read t c)))
-      × (ownSize (h-at t (first_read t c)) (b_at t (first_read t c)) (k-at t (first_read t c)) + length (first-bytes-at t (first_read t c))
+      × (own_size (h-at t (first_read t c)) (b_at t (first_read t c)) (k-at t (first_read t c)) + length (first-bytes-at t (first_read t c))
       ≤ pushed-size-at t (first_read t c))
   wrote : Wrote (own-bytes-at t (first_read t c) ++ first-bytes-at t (first_read t c)) (out_at t (first_read t c)) (out₂-at t c)
       (first-end-at t c)
@@ -297,7 +297,7 @@ second-never t c e =
 -- its push, and all of the node's
 abbrev second-bytes-at : (t : ℕ) → FirstFound t → List ℕ
 second-bytes-at t c =
-    let p = first_read t c in nodeBytes (push (secondBound (h-at t p) (b_at t p)) (node_of (drop (place_at t c) (s-at t p))))
+    let p = first_read t c in node_bytes (push (second_bound (h-at t p) (b_at t p)) (node_of (drop (place_at t c) (s-at t p))))
 
 abbrev all-bytes-at : (t : ℕ) → FirstFound t → List ℕ
 all-bytes-at t c = own-bytes-at t (first_read t c) ++ first-bytes-at t (first_read t c) ++ second-bytes-at t c
@@ -316,7 +316,7 @@ out₃-at t c =
     put_mid (first-end-at t f) (length (out₂-at t f) - first-end-at t f) (out₂-at t f) (second-pushed-of t c).push-node2.new.1.1.0
 
 record SecondAt (t : ℕ) (c : SecondFound t) : Type 0 where
-  bytes : nodeBytes (push (b_at t (second-read t c)) (node_of (s-at t (second-read t c)))) ≡ all-bytes-at t (second-first t c)
+  bytes : node_bytes (push (b_at t (second-read t c)) (node_of (s-at t (second-read t c)))) ≡ all-bytes-at t (second-first t c)
   wrote : Wrote (all-bytes-at t (second-first t c)) (out_at t (second-read t c)) (out₃-at t c)
       (first-end-at t (second-first t c) + right-at t c)
   place : place_at t (second-first t c) + last-at t c ≡ size-at t (second-read t c)
@@ -360,7 +360,7 @@ push-node-returns : (t : ℕ) → push-node-lts.Need-returns (push-node-calls t)
 push-node-returns t c =
     let start = c.before.before.before.before.before.before in
     absurd (own-sound start.args.q.now _ start.requires.1.sound
-    (sym c.before.before.before.read-own.ensures ∙ ap nodeFound c.before.enum_told.given.1))
+    (sym c.before.before.before.read-own.ensures ∙ ap node_found c.before.enum_told.given.1))
 
 push-node-write-own-requires : (t : ℕ) → push-node-lts.Need-write-own-requires (push-node-calls t) (push-node-at t) push-node.Post
 push-node-write-own-requires t c κs =
@@ -417,7 +417,7 @@ push-node-push-node-requires t c κs =
     let some = some_at t e in
     let inside = first-inside o (b_at t p) some in
     let r =
-    operand-ready (s-at t p) (k-at t p) _ (firstBound (h-at t p) (b_at t p)) (out₁-at t w) (own-end-at t w)
+    operand-ready (s-at t p) (k-at t p) _ (first_bound (h-at t p) (b_at t p)) (out₁-at t w) (own-end-at t w)
     (first-sound o some) o.some o.inside pre.short c.before.first-bound.ensures
     (operands-formed o (b_at t p) pre.formed).0 (omega (arith, own-long t w, own-size-at t w, inside.1, pre.fits)) in
     (omega (arith, r.0, (start_of t p).pre.0), r.1)
@@ -495,7 +495,7 @@ push-node-push-node-requires-2 t c κs =
     let two = two_at t e in
     let size = size-two o (b_at t p) (next-at t x) two in
     let r =
-    operand-ready (s-at t p) (place_at t x) _ (secondBound (h-at t p) (b_at t p)) (out₂-at t x) (first-end-at t x) two.right-sound
+    operand-ready (s-at t p) (place_at t x) _ (second_bound (h-at t p) (b_at t p)) (out₂-at t x) (first-end-at t x) two.right-sound
     (omega (arith, o.some)) (omega (arith, f.next-is, f.inside.0)) pre.short c.before.second-bound.ensures
     (operands-formed o (b_at t p) pre.formed).1 (omega (arith, first-long t x, own-size-at t w, f.left_is, size, pre.fits)) in
     (omega (arith, r.0, (start_of t p).pre.0), r.1)

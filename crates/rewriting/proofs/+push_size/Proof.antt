@@ -8,18 +8,18 @@ use borrow.Fn.Kinds.{In}
 use borrow.Fn.PlainCycle.{Measures, is, falls, and}
 use lib.ListN.{length, drop}
 use Rattle.tsparql.specs.Push.{TrustBound, push}
-use Rattle.tsparql.specs.Rewrite.{rewriteLimit}
-use Rattle.tsparql.specs.Writing.{nodeSize}
+use Rattle.tsparql.specs.Rewrite.{rewrite_limit}
+use Rattle.tsparql.specs.Writing.{node_size}
 use Rattle.heads.specs.declared.Head.{Head}
-use Rattle.heads.specs.Answers.{nodeFound}
-use Rattle.heads.specs.Parts.{nodeOperands}
+use Rattle.heads.specs.Answers.{node_found}
+use Rattle.heads.specs.Parts.{node_operands}
 use Rattle.query.specs.Found.{NodeSound, node_of}
 use Rattle.query.proofs.Operands.{Own, TwoOperands, own-found, own-sound, no_operand, one-operand, first-sound, second-operand}
 use Rattle.rewriting.proofs.fault_refused.Reads as fault-refused-reads
 use Rattle.heads.proofs.node_operands.Reads as node-operands-reads
 use Rattle.query.proofs.read_own.Reads as read-own-reads
 use Rattle.rewriting.specs.declared.Pushed.TheVariants as P
-use Rattle.bounds.specs.Bounds.{boundIn, firstBound, ownSize}
+use Rattle.bounds.specs.Bounds.{bound_in, first_bound, own_size}
 use Rattle.rewriting.proofs.PushSteps.{got-is, part-ready, answered-part, never-refused, push-inside, first-inside}
 use Rattle.rewriting.proofs.PushSteps.{size_none, size-one, size-two}
 use Rattle.rewriting.proofs.push_size.Reads as push-size
@@ -140,7 +140,7 @@ abbrev s-at : (t : ℕ) → OwnRead t → List ℕ
 s-at t c = (start_of t c).args.q.now
 
 abbrev b_at : (t : ℕ) → OwnRead t → TrustBound
-b_at t c = boundIn (start_of t c).args.b
+b_at t c = bound_in (start_of t c).args.b
 
 abbrev h-at : (t : ℕ) → OwnRead t → Head
 h-at t c = c.before.h.given.0.0
@@ -148,20 +148,20 @@ h-at t c = c.before.h.given.0.0
 abbrev k-at : (t : ℕ) → OwnRead t → ℕ
 k-at t c = c.before.h.given.0.1.0
 
-pre_at : (t : ℕ) (c : OwnRead t) → NodeSound (s-at t c) × (length (s-at t c) ≤ rewriteLimit)
+pre_at : (t : ℕ) (c : OwnRead t) → NodeSound (s-at t c) × (length (s-at t c) ≤ rewrite_limit)
 pre_at t c = (start_of t c).requires.1
 
 own_at : (t : ℕ) (c : OwnRead t) → Own (s-at t c) (h-at t c) (k-at t c)
 own_at t c =
     own-found (s-at t c) _ _ (pre_at t c).0
-    (sym c.before.before.before.read-own.ensures ∙ ap nodeFound c.before.h.given.1)
+    (sym c.before.before.before.read-own.ensures ∙ ap node_found c.before.h.given.1)
 
 -- the sizes of the node and of its push
 abbrev size-at : (t : ℕ) → OwnRead t → ℕ
-size-at t c = nodeSize (node_of (s-at t c))
+size-at t c = node_size (node_of (s-at t c))
 
 abbrev pushed-size-at : (t : ℕ) → OwnRead t → ℕ
-pushed-size-at t c = nodeSize (push (b_at t c) (node_of (s-at t c)))
+pushed-size-at t c = node_size (push (b_at t c) (node_of (s-at t c)))
 
 -- where its part of the push ends
 abbrev own-end-at : (t : ℕ) → OwnSized t → ℕ
@@ -169,7 +169,7 @@ own-end-at t c = c.own-size.result
 
 -- ---- the first operand
 
-some_at : (t : ℕ) (c : HasFirst t) → nodeOperands (h-at t (read_of t (sized_of t c))) ≡ 0 → ⊥
+some_at : (t : ℕ) (c : HasFirst t) → node_operands (h-at t (read_of t (sized_of t c))) ≡ 0 → ⊥
 some_at t c z = omega (arith, c.before.node-operands.ensures, c.if1.false)
 
 first-never : (t : ℕ) (c : FirstPushed t) {n p : ℕ} → c.push-size.result ≡ P.Refused n p → ⊥
@@ -179,10 +179,10 @@ first-never t c e =
 
 -- its size and that of its push
 abbrev first-size-at : (t : ℕ) → OwnRead t → ℕ
-first-size-at t c = nodeSize (node_of (drop (k-at t c) (s-at t c)))
+first-size-at t c = node_size (node_of (drop (k-at t c) (s-at t c)))
 
 abbrev first-pushed-size-at : (t : ℕ) → OwnRead t → ℕ
-first-pushed-size-at t c = nodeSize (push (firstBound (h-at t c) (b_at t c)) (node_of (drop (k-at t c) (s-at t c))))
+first-pushed-size-at t c = node_size (push (first_bound (h-at t c) (b_at t c)) (node_of (drop (k-at t c) (s-at t c))))
 
 -- the sizes that were answered, of the push and of the operand
 abbrev left_at : (t : ℕ) → FirstFound t → ℕ
@@ -202,7 +202,7 @@ record FirstAt (t : ℕ) (c : FirstFound t) : Type 0 where
   left_is : left_at t c ≡ first-pushed-size-at t (first_read t c)
   next-is : next-at t c ≡ first-size-at t (first_read t c)
   inside : (k-at t (first_read t c) + first-size-at t (first_read t c) ≤ length (s-at t (first_read t c)))
-      × (ownSize (h-at t (first_read t c)) (b_at t (first_read t c)) (k-at t (first_read t c)) + first-pushed-size-at t (first_read t c)
+      × (own_size (h-at t (first_read t c)) (b_at t (first_read t c)) (k-at t (first_read t c)) + first-pushed-size-at t (first_read t c)
       ≤ pushed-size-at t (first_read t c))
 
 first-at : (t : ℕ) (c : FirstFound t) → FirstAt t c
@@ -213,7 +213,7 @@ first-at t c =
     let a = answered-part (s-at t p) (k-at t p) _ _ f.push-size.result bound f.push-size.ensures c.before.x.given.1 in
     record { left_is = a.0; next-is = a.1; inside = first-inside (own_at t p) (b_at t p) (some_at t (has-first-of t f)) }
 
-first-end-small : (t : ℕ) (c : FirstFound t) → first-end-at t c ≤ 5 * rewriteLimit
+first-end-small : (t : ℕ) (c : FirstFound t) → first-end-at t c ≤ 5 * rewrite_limit
 first-end-small t c =
     let f = first-at t c in
     let w = first-sized t c in
@@ -278,7 +278,7 @@ push-size-returns : (t : ℕ) → push-size-lts.Need-returns (push-size-calls t)
 push-size-returns t c =
     let start = c.before.before.before.before.before in
     absurd (own-sound start.args.q.now _ start.requires.1.0
-    (sym c.before.before.before.read-own.ensures ∙ ap nodeFound c.before.enum_told.given.1))
+    (sym c.before.before.before.read-own.ensures ∙ ap node_found c.before.enum_told.given.1))
 
 push-size-own-size-requires : (t : ℕ) → push-size-lts.Need-own-size-requires (push-size-calls t) (push-size-at t) push-size.Post
 push-size-own-size-requires t c κs = omega (arith, (own_at t c).inside, (pre_at t c).1)

@@ -3,13 +3,13 @@ use mathlib.Core.Path.{◌≡◌, sym, ap, ◌∙◌}
 use native.Mathlib.Omega.{arith}
 use borrow.Author.Rules.{rules}
 use lib.ListN.{length}
-use Rattle.tsparql.specs.Push.{noBound, push}
-use Rattle.tsparql.specs.Writing.{nodeBytes}
-use Rattle.tsparql.specs.Check.{Passes, queryRefusal}
-use Rattle.tsparql.specs.Rewrite.{rewriteLimit}
+use Rattle.tsparql.specs.Push.{no_bound, push}
+use Rattle.tsparql.specs.Writing.{node_bytes}
+use Rattle.tsparql.specs.Check.{Passes, query_refusal}
+use Rattle.tsparql.specs.Rewrite.{rewrite_limit}
 use Rattle.query.specs.Found.{node_of}
 use Rattle.query.proofs.ReadLaws.{fault-not-got}
-use Rattle.rewriting.specs.Answers.{pushedIn, rewrittenIn}
+use Rattle.rewriting.specs.Answers.{pushed_in, rewritten_in}
 use Rattle.rewriting.proofs.RewriteCases.{query-refused, query-passes, whole, too_short, all-written}
 use Rattle.rewriting.proofs.rewrite.Statement.{statement}
 use Rattle.rewriting.proofs.rewrite.Tie as tie
@@ -18,7 +18,7 @@ use Rattle.rewriting.proofs.rewrite.Tie as tie
 abbrev start_of : tie.After-enum-told → tie.Start
 start_of c = c.before.before.before.before.before
 
-passes_at : (c : tie.After-enum-told) → Passes (queryRefusal rewriteLimit (start_of c).args.q.now)
+passes_at : (c : tie.After-enum-told) → Passes (query_refusal rewrite_limit (start_of c).args.q.now)
 passes_at c =
     let a = (start_of c).args in
     query-passes a.q.now a.out.now _ c.before.before.check-query.ensures c.enum_told.given.1
@@ -28,8 +28,8 @@ abbrev passed-of : tie.After-known-told2 → tie.After-enum-told
 passed-of c = c.before.before.before.before
 
 size-at : (c : tie.After-known-told2)
-    → c.before.n.given.0.0 ≡ length (nodeBytes (push noBound (node_of (start_of (passed-of c)).args.q.now)))
-size-at c = let e = sym (ap pushedIn c.before.n.given.1) ∙ c.before.before.before.push-size.ensures in cc
+    → c.before.n.given.0.0 ≡ length (node_bytes (push no_bound (node_of (start_of (passed-of c)).args.q.now)))
+size-at c = let e = sym (ap pushed_in c.before.n.given.1) ∙ c.before.before.before.push-size.ensures in cc
 
 check-query-requires : tie.Need-check-query-requires
 check-query-requires c κs = search rules
@@ -59,7 +59,7 @@ answer-of-requires c κs = search rules
 
 returns-2 : tie.Need-returns-2
 returns-2 c =
-    absurd (fault-not-got (sym (ap pushedIn c.before.enum-told2.given.1) ∙ c.before.before.before.push-size.ensures))
+    absurd (fault-not-got (sym (ap pushed_in c.before.enum-told2.given.1) ∙ c.before.before.before.push-size.ensures))
 
 returns-3 : tie.Need-returns-3
 returns-3 c =
@@ -85,7 +85,7 @@ returns-4 c =
     let sized = pushed.before.before.before in
     let p = passed-of sized in
     let a = (start_of p).args in
-    ap (λ r. rewrittenIn r pushed.push-node.new.1.1.0) c.answer-of2.ensures
+    ap (λ r. rewritten_in r pushed.push-node.new.1.1.0) c.answer-of2.ensures
     ∙ all-written a.q.now a.out.now (passes_at p) _ _ (omega (arith, size-at sized)) pushed.push-node.ensures
 
 pub rewrite-spec : {M : Type 1} → statement M

@@ -10,7 +10,7 @@ use lib.Seq.{length-take-le, take-length}
 use Rattle.encoding.specs.Writers.{Wrote}
 use Rattle.query.proofs.ReadLaws.{part-drop}
 use Rattle.encoding.proofs.WriterLaws.{wrote-long, wrote-behind}
-use Rattle.bounds.specs.Bounds.{boundIn, stays, wrapped, wrapBytes}
+use Rattle.bounds.specs.Bounds.{bound_in, stays, wrapped, wrap_bytes}
 use Rattle.rewriting.proofs.PushParts.{wrap-size, own-wrapped, own_bare, own-gone}
 use Rattle.rewriting.proofs.write_own.Statement.{statement}
 use Rattle.rewriting.proofs.write_own.Tie as tie
@@ -35,11 +35,11 @@ stays_on c = sym c.before.stays_put.ensures ∙ c.if1.true
 abbrev wrap-start : tie.Then2 → tie.Start
 wrap-start c = start_of c.before.before
 
-wrapped-on : (c : tie.Then2) → wrapped (wrap-start c).args.h (boundIn (wrap-start c).args.b) ≡ true
+wrapped-on : (c : tie.Then2) → wrapped (wrap-start c).args.h (bound_in (wrap-start c).args.b) ≡ true
 wrapped-on c = sym c.before.wraps.ensures ∙ c.if2.true
 
-wrap-long : (c : tie.Then2) → length (wrapBytes (boundIn (wrap-start c).args.b)) ≡ 4
-wrap-long c = let a = (wrap-start c).args in wrap-size a.h (boundIn a.b) (wrapped-on c)
+wrap-long : (c : tie.Then2) → length (wrap_bytes (bound_in (wrap-start c).args.b)) ≡ 4
+wrap-long c = let a = (wrap-start c).args in wrap-size a.h (bound_in a.b) (wrapped-on c)
 
 wrap-room : (c : tie.Then2) → 4 + (wrap-start c).args.k ≤ length (wrap-start c).args.out.now
 wrap-room c = rw (stays_on c.before.before, wrapped-on c) at (wrap-start c).requires.3
@@ -64,7 +64,7 @@ wrap-written c =
     let room = wrap-room on in
     record {
       four = c.write-wrap.ensures.size ∙ wrap-long on;
-      kept = wrote-long (wrapBytes (boundIn a.b)) a.out.now _ _ c.write-wrap.ensures (omega (arith, wrap-long on));
+      kept = wrote-long (wrap_bytes (bound_in a.b)) a.out.now _ _ c.write-wrap.ensures (omega (arith, wrap-long on));
       room = room;
     }
 
@@ -77,7 +77,7 @@ wrap-of c = c.before.before.before.before.before
 abbrev bare-start : tie.Else2 → tie.Start
 bare-start c = start_of c.before.before
 
-wrapped-off : (c : tie.Else2) → wrapped (bare-start c).args.h (boundIn (bare-start c).args.b) ≡ false
+wrapped-off : (c : tie.Else2) → wrapped (bare-start c).args.h (bound_in (bare-start c).args.b) ≡ false
 wrapped-off c = sym c.before.wraps.ensures ∙ c.if2.false
 
 bare-room : (c : tie.Else2) → (bare-start c).args.k ≤ length (bare-start c).args.out.now
@@ -129,8 +129,8 @@ returns c =
     let on = wraps-of p in
     let a = (wrap-start on).args in
     let s = take a.k a.q.now in
-    rw (own-wrapped a.h (boundIn a.b) s (stays_on on.before.before) (wrapped-on on))
-    (wrote-behind (wrapBytes (boundIn a.b)) s a.out.now (out₁-at p) copy.new.1.0 _ _ p.write-wrap.ensures
+    rw (own-wrapped a.h (bound_in a.b) s (stays_on on.before.before) (wrapped-on on))
+    (wrote-behind (wrap_bytes (bound_in a.b)) s a.out.now (out₁-at p) copy.new.1.0 _ _ p.write-wrap.ensures
     (omega (arith, wrap-long on, wrap-room on)) (copied copy.ensures.0 copy.ensures.1))
 
 slice-aggregate-copy-2 : tie.Need-slice-aggregate-copy-2
@@ -147,14 +147,14 @@ returns-2 c =
     let copy = c.before.before.copy2 in
     let off = c.before.before.before.before.before in
     let a = (bare-start off).args in
-    rw (own_bare a.h (boundIn a.b) (take a.k a.q.now) (stays_on off.before.before) (wrapped-off off))
+    rw (own_bare a.h (bound_in a.b) (take a.k a.q.now) (stays_on off.before.before) (wrapped-off off))
     (copied copy.ensures.0 copy.ensures.1)
 
 returns-3 : tie.Need-returns-3
 returns-3 c =
     let a = c.before.before.before.before.args in
     let gone = sym c.before.stays_put.ensures ∙ c.if1.false in
-    rw (own-gone a.h (boundIn a.b) (take a.k a.q.now) gone) (record { size = refl; bytes = refl })
+    rw (own-gone a.h (bound_in a.b) (take a.k a.q.now) gone) (record { size = refl; bytes = refl })
 
 pub write-own-spec : {M : Type 1} → statement M
 write-own-spec =

@@ -1,7 +1,7 @@
 -- By the first byte, where `compare` answers. Assumes nothing.
 use borrow.Author.Tests.{ne_eqb}
 use Rattle.tsparql.specs.Strikes.{ascii}
-use Rattle.scanner.specs.Fixed.{fixedToken}
+use Rattle.scanner.specs.Fixed.{fixed_token}
 use Rattle.scanner.proofs.CompareLaws.{compared-token}
 use borrow.Author.Rules.{rules}
 use Rattle.scanner.proofs.fixed_token.Statement.{statement}
@@ -26,13 +26,13 @@ returns : tie.Need-returns
 unfolding ascii
 returns c =
     let start = c.before.before.before.before in
-    compared-token start.args.text.now fixedToken _ c.before.before.match.keys1 c.compare.ensures
+    compared-token start.args.text.now fixed_token _ c.before.before.match.keys1 c.compare.ensures
 
 returns-2 : tie.Need-returns-2
 unfolding ascii
 returns-2 c =
     let start = c.before.before.before.before in
-    compared-token start.args.text.now fixedToken _ c.before.before.match.keys2 c.compare2.ensures
+    compared-token start.args.text.now fixed_token _ c.before.before.match.keys2 c.compare2.ensures
 
 returns-3 : tie.Need-returns-3
 returns-3 c =

@@ -1,7 +1,7 @@
 -- By the first byte, where `compare` answers. Assumes nothing.
 use borrow.Author.Tests.{ne_eqb}
 use Rattle.tsparql.specs.Strikes.{ascii}
-use Rattle.scanner.specs.Fixed.{keywordOf}
+use Rattle.scanner.specs.Fixed.{keyword_of}
 use Rattle.scanner.proofs.CompareLaws.{compared-token}
 use borrow.Author.Rules.{rules}
 use Rattle.scanner.proofs.keyword.Statement.{statement}
@@ -38,25 +38,25 @@ returns : tie.Need-returns
 unfolding ascii
 returns c =
     let start = c.before.before.before.before in
-    compared-token start.args.text.now keywordOf _ c.before.before.match.keys1 c.compare.ensures
+    compared-token start.args.text.now keyword_of _ c.before.before.match.keys1 c.compare.ensures
 
 returns-2 : tie.Need-returns-2
 unfolding ascii
 returns-2 c =
     let start = c.before.before.before.before in
-    compared-token start.args.text.now keywordOf _ c.before.before.match.keys2 c.compare2.ensures
+    compared-token start.args.text.now keyword_of _ c.before.before.match.keys2 c.compare2.ensures
 
 returns-3 : tie.Need-returns-3
 unfolding ascii
 returns-3 c =
     let start = c.before.before.before.before in
-    compared-token start.args.text.now keywordOf _ c.before.before.match.keys3 c.compare3.ensures
+    compared-token start.args.text.now keyword_of _ c.before.before.match.keys3 c.compare3.ensures
 
 returns-4 : tie.Need-returns-4
 unfolding ascii
 returns-4 c =
     let start = c.before.before.before.before in
-    compared-token start.args.text.now keywordOf _ c.before.before.match.keys4 c.compare4.ensures
+    compared-token start.args.text.now keyword_of _ c.before.before.match.keys4 c.compare4.ensures
 
 returns-5 : tie.Need-returns-5
 returns-5 c =

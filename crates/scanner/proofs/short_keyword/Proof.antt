@@ -2,7 +2,7 @@
 use mathlib.Core.Path.{sym}
 use borrow.Author.Tests.{ne_eqb}
 use Rattle.tsparql.specs.Strikes.{ascii}
-use Rattle.scanner.specs.Fixed.{shortKeyword}
+use Rattle.scanner.specs.Fixed.{short_keyword}
 use Rattle.scanner.proofs.CompareLaws.{compared-one, compared-token}
 use borrow.Author.Rules.{rules}
 use Rattle.scanner.proofs.short_keyword.Statement.{statement}
@@ -30,19 +30,19 @@ returns : tie.Need-returns
 unfolding ascii
 returns c =
     let start = c.before.before.before.before in
-    compared-token start.args.text.now shortKeyword _ c.before.before.match.keys1 c.compare.ensures
+    compared-token start.args.text.now short_keyword _ c.before.before.match.keys1 c.compare.ensures
 
 returns-2 : tie.Need-returns-2
 unfolding ascii
 returns-2 c =
     let start = c.before.before.before.before in
-    compared-token start.args.text.now shortKeyword _ c.before.before.match.keys2 c.compare2.ensures
+    compared-token start.args.text.now short_keyword _ c.before.before.match.keys2 c.compare2.ensures
 
 returns-3 : tie.Need-returns-3
 unfolding ascii
 returns-3 c =
     let start = c.before.before.before.before in
-    compared-token start.args.text.now shortKeyword _ c.before.before.match.keys3 c.compare3.ensures
+    compared-token start.args.text.now short_keyword _ c.before.before.match.keys3 c.compare3.ensures
 
 returns-4 : tie.Need-returns-4
 returns-4 c =

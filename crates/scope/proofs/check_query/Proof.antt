@@ -3,11 +3,11 @@ use mathlib.Core.Path.{◌≡◌, sym, ap, ◌∙◌}
 use native.Mathlib.Omega.{arith}
 use Rattle.tsparql.specs.Query.{Node}
 use Rattle.tsparql.specs.Reading.{got, read_node}
-use Rattle.heads.specs.Answers.{nodeFound, faultIn}
-use Rattle.query.specs.Answers.{nodeHead}
+use Rattle.heads.specs.Answers.{node_found, fault_in}
+use Rattle.query.specs.Answers.{node_head}
 use Rattle.query.proofs.ReadLaws.{made_fault, made_got}
 use Rattle.scope.specs.declared.Clash.TheVariants as C
-use Rattle.scope.specs.Variables.{clashIn}
+use Rattle.scope.specs.Variables.{clash_in}
 use Rattle.scope.proofs.Checks.{long-checked, fault-checked, surplus-checked, whole-sound, whole-checked}
 use borrow.Author.Rules.{rules}
 use Rattle.scope.proofs.check_query.Statement.{statement}
@@ -31,9 +31,9 @@ node-fault-requires c κs = search rules
 returns-2 : tie.Need-returns-2
 returns-2 c =
     let s = c.before.before.before.before.before.before.args.q.now in
-    let told = ap nodeFound c.before.enum_told.given.1 in
-    let bad = made_fault nodeHead (read_node s) _ (sym c.before.before.before.read-node.ensures ∙ told) in
-    rw (c.node-fault.ensures ∙ ap faultIn told) (fault-checked c.before.before.before.before.before.before.args.limit _ s
+    let told = ap node_found c.before.enum_told.given.1 in
+    let bad = made_fault node_head (read_node s) _ (sym c.before.before.before.read-node.ensures ∙ told) in
+    rw (c.node-fault.ensures ∙ ap fault_in told) (fault-checked c.before.before.before.before.before.before.args.limit _ s
     (omega arith) bad)
 
 -- the node that was found
@@ -41,8 +41,8 @@ node-is : (c : tie.After-known-told) → (x : Node) × (read_node c.before.befor
     c.before.r.given.0.1.0)
 node-is c =
     let s = c.before.before.before.before.before.before.args.q.now in
-    let r = sym c.before.before.before.read-node.ensures ∙ ap nodeFound c.before.r.given.1 in
-    let x = made_got nodeHead (read_node s) _ _ r in
+    let r = sym c.before.before.before.read-node.ensures ∙ ap node_found c.before.r.given.1 in
+    let x = made_got node_head (read_node s) _ _ r in
     (x.0, x.1)
 
 first-clash-requires : tie.Need-first-clash-requires
@@ -62,7 +62,7 @@ returns-3 c =
     let node = node-is c.before.before.before.before in
     whole-checked start.args.limit _ start.args.q.now node.0 C.Nowhere (omega arith) node.1
     c.before.before.before.if2.true
-    (sym (ap clashIn c.enum-told2.given.1) ∙ c.before.before.first-clash.ensures)
+    (sym (ap clash_in c.enum-told2.given.1) ∙ c.before.before.first-clash.ensures)
 
 returns-4 : tie.Need-returns-4
 returns-4 c =
@@ -70,7 +70,7 @@ returns-4 c =
     let node = node-is c.before.before.before.before.before in
     whole-checked start.args.limit _ start.args.q.now node.0 (C.At _) (omega arith) node.1
     c.before.before.before.before.if2.true
-    (sym (ap clashIn c.before.clash.given.1) ∙ c.before.before.before.first-clash.ensures)
+    (sym (ap clash_in c.before.clash.given.1) ∙ c.before.before.before.first-clash.ensures)
 
 returns-5 : tie.Need-returns-5
 returns-5 c =

@@ -3,7 +3,7 @@ use mathlib.Core.Path.{◌≡◌, sym, ◌∙◌}
 use native.Mathlib.Omega.{arith}
 use borrow.Author.Tests.{lt-ltb, le-ltb}
 use lib.ListN.{drop}
-use Rattle.scope.specs.Variables.{projectedIn}
+use Rattle.scope.specs.Variables.{projected_in}
 use Rattle.query.proofs.ReadLaws.{on-part}
 use borrow.Author.Rules.{rules}
 use Rattle.scope.proofs.clash_at.Statement.{statement}
@@ -29,7 +29,7 @@ returns c =
     let s = c.before.before.before.before.before.args.q.now in
     let at = c.before.before.before.before.before.args.at in
     let v = c.before.before.projected.result in
-    let is : v ≡ projectedIn (drop at s) = sym (on-part projectedIn s at c.before.before.projected.ensures) in
+    let is : v ≡ projected_in (drop at s) = sym (on-part projected_in s at c.before.before.projected.ensures) in
     c.clashes.ensures ∙ sym (rw (← is, lt-ltb v 16 (omega arith)))
 
 returns-2 : tie.Need-returns-2
@@ -37,7 +37,7 @@ returns-2 c =
     let s = c.before.before.before.before.args.q.now in
     let at = c.before.before.before.before.args.at in
     let v = c.before.projected.result in
-    let is : v ≡ projectedIn (drop at s) = sym (on-part projectedIn s at c.before.projected.ensures) in
+    let is : v ≡ projected_in (drop at s) = sym (on-part projected_in s at c.before.projected.ensures) in
     sym (rw (← is, le-ltb v 16 (omega arith)))
 
 pub clash-at-spec : {M : Type 1} → statement M

@@ -6,11 +6,11 @@ use lib.ListN.{drop, length}
 use Prim.Native.Nat.{◌+◌, ◌≤◌, ◌-◌}
 use Rattle.tsparql.specs.Reading.{got}
 use borrow.Author.Rules.{rules}
-use Rattle.query.specs.Answers.{placeFound}
-use Rattle.query.specs.Found.{node_of, nextNode}
-use Rattle.scope.specs.Variables.{ownUses}
+use Rattle.query.specs.Answers.{place_found}
+use Rattle.query.specs.Found.{node_of, next_node}
+use Rattle.scope.specs.Variables.{own_uses}
 use Rattle.query.proofs.ReadLaws.{part-drop, on-part}
-use Rattle.scope.proofs.Walk.{uses-start, uses-sound, uses-here, next-found, next-inside, uses-next, uses-end, ownUses-small}
+use Rattle.scope.proofs.Walk.{uses-start, uses-sound, uses-here, next-found, next-inside, uses-next, uses-end, own_uses-small}
 use Rattle.scope.proofs.Walk.{UsesLeft}
 use Rattle.scope.proofs.clashes.Statement.{statement}
 use Rattle.scope.proofs.clashes.Tie as tie
@@ -42,17 +42,17 @@ own-uses-requires c κs =
 own_is : (c : tie.After-own-uses invariant-loop decreases-loop)
     → let turn = c.before.before.before in
     let start = turn.before.before in
-    c.own-uses.result ≡ ownUses start.args.v (node_of (drop turn.loop.at start.args.q.now))
+    c.own-uses.result ≡ own_uses start.args.v (node_of (drop turn.loop.at start.args.q.now))
 own_is c =
     let turn = c.before.before.before in
     let start = turn.before.before in
-    sym (on-part (λ t. ownUses start.args.v (node_of t)) start.args.q.now turn.loop.at c.own-uses.ensures)
+    sym (on-part (λ t. own_uses start.args.v (node_of t)) start.args.q.now turn.loop.at c.own-uses.ensures)
 
 add-seen : tie.Need-overflow-add-seen invariant-loop decreases-loop
 add-seen c =
     let turn = c.before.before.before in
     let start = turn.before.before in
-    let small = ownUses-small start.args.v (node_of (drop turn.loop.at start.args.q.now)) in
+    let small = own_uses-small start.args.v (node_of (drop turn.loop.at start.args.q.now)) in
     omega (arith, own_is c, small, turn.loop.invariant.few)
 
 returns : tie.Need-returns invariant-loop decreases-loop
@@ -81,17 +81,17 @@ returns-2 c =
     let turn = c.before.before.before.before.before.before.before.before in
     let s = turn.before.before.args.q.now in
     let left = turn.loop.invariant in
-    let next = on-part nextNode s turn.loop.at c.before.before.next-node.ensures ∙ ap placeFound c.enum_told.given.1 in
+    let next = on-part next_node s turn.loop.at c.before.before.next-node.ensures ∙ ap place_found c.enum_told.given.1 in
     absurd (next-found s turn.loop.at _ left.forest (omega arith) left.reads next)
 
 -- in a turn: the next node
 next-is : (c : tie.After-known-told invariant-loop decreases-loop)
     → let turn = c.before.before.before.before.before.before.before.before.before in
-    nextNode (drop turn.loop.at turn.before.before.args.q.now) ≡ got tt c.before.n.given.0.0
+    next_node (drop turn.loop.at turn.before.before.args.q.now) ≡ got tt c.before.n.given.0.0
 next-is c =
     let turn = c.before.before.before.before.before.before.before.before.before in
-    on-part nextNode turn.before.before.args.q.now turn.loop.at c.before.before.before.next-node.ensures
-    ∙ ap placeFound c.before.n.given.1
+    on-part next_node turn.before.before.args.q.now turn.loop.at c.before.before.before.next-node.ensures
+    ∙ ap place_found c.before.n.given.1
 
 inside : (c : tie.After-known-told invariant-loop decreases-loop)
     → let turn = c.before.before.before.before.before.before.before.before.before in

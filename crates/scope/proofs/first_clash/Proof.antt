@@ -5,8 +5,8 @@ use lib.ListN.{drop, length}
 use Prim.Native.Nat.{◌+◌, ◌≤◌, ◌-◌}
 use Rattle.tsparql.specs.Reading.{got}
 use borrow.Author.Rules.{rules}
-use Rattle.query.specs.Answers.{placeFound}
-use Rattle.query.specs.Found.{nextNode}
+use Rattle.query.specs.Answers.{place_found}
+use Rattle.query.specs.Found.{next_node}
 use Rattle.query.proofs.ReadLaws.{on-part}
 use Rattle.scope.proofs.Walk.{clash-start, clash-is, next-found, next-inside, clash-next, clash-none, ClashLeft}
 use Rattle.scope.proofs.first_clash.Statement.{statement}
@@ -50,17 +50,17 @@ returns-2 c =
     let turn = c.before.before.before.before.before.before.before in
     let s = turn.before.before.args.q.now in
     let left = turn.loop.invariant in
-    let next = on-part nextNode s turn.loop.at c.before.before.next-node.ensures ∙ ap placeFound c.enum_told.given.1 in
+    let next = on-part next_node s turn.loop.at c.before.before.next-node.ensures ∙ ap place_found c.enum_told.given.1 in
     absurd (next-found s turn.loop.at _ left.forest (omega arith) left.reads next)
 
 -- in a turn: the next node
 next-is : (c : tie.After-known-told invariant-loop decreases-loop)
     → let turn = c.before.before.before.before.before.before.before.before in
-    nextNode (drop turn.loop.at turn.before.before.args.q.now) ≡ got tt c.before.n.given.0.0
+    next_node (drop turn.loop.at turn.before.before.args.q.now) ≡ got tt c.before.n.given.0.0
 next-is c =
     let turn = c.before.before.before.before.before.before.before.before in
-    on-part nextNode turn.before.before.args.q.now turn.loop.at c.before.before.before.next-node.ensures
-    ∙ ap placeFound c.before.n.given.1
+    on-part next_node turn.before.before.args.q.now turn.loop.at c.before.before.before.next-node.ensures
+    ∙ ap place_found c.before.n.given.1
 
 inside : (c : tie.After-known-told invariant-loop decreases-loop)
     → let turn = c.before.before.before.before.before.before.before.before in

@@ -1,12 +1,12 @@
 -- By the head of the node. Assumes nothing.
 use mathlib.Core.Path.{◌≡◌, sym, ap, ◌∙◌}
 use borrow.Author.Tests.{eq-eqb, ne_eqb}
-use Rattle.heads.specs.Answers.{nodeFound}
+use Rattle.heads.specs.Answers.{node_found}
 use Rattle.query.proofs.NodeParts.{node-head-inside}
-use Rattle.scope.proofs.Walk.{headUses, HeadOfNode, head-of-node, head-sound}
+use Rattle.scope.proofs.Walk.{head_uses, HeadOfNode, head-of-node, head-sound}
 use Rattle.heads.specs.declared.Head.{Head}
 use Rattle.query.specs.Found.{node_of}
-use Rattle.scope.specs.Variables.{ownUses}
+use Rattle.scope.specs.Variables.{own_uses}
 use borrow.Author.Rules.{rules}
 use Rattle.scope.proofs.own_uses.Statement.{statement}
 use Rattle.scope.proofs.own_uses.Tie as tie
@@ -24,7 +24,7 @@ returns : tie.Need-returns
 returns c =
     let start = c.before.before.before.before in
     absurd (head-sound start.args.q.now start.requires (sym c.before.before.read_head.ensures
-    ∙ ap nodeFound c.enum_told.given.1))
+    ∙ ap node_found c.enum_told.given.1))
 
 enum-known-head : tie.Need-enum-known-head
 enum-known-head c = search rules
@@ -36,23 +36,23 @@ head-is : (c : tie.After-known-told)
 head-is c =
     let start = c.before.before.before.before.before in
     head-of-node start.args.v start.args.q.now start.requires
-    (sym c.before.before.before.read_head.ensures ∙ ap nodeFound c.before.h.given.1)
+    (sym c.before.before.before.read_head.ensures ∙ ap node_found c.before.h.given.1)
 
 -- its uses, by the head's case
 uses-by : (c : tie.After-known-told) (h : Head) → c.before.h.given.0.0 ≡ h
     → let start = c.before.before.before.before.before in
-    headUses start.args.v start.args.q.now c.before.h.given.0.1.0 h ≡ ownUses start.args.v
+    head_uses start.args.v start.args.q.now c.before.h.given.0.1.0 h ≡ own_uses start.args.v
     (node_of start.args.q.now)
 uses-by c h e =
     let start = c.before.before.before.before.before in
-    sym ((head-is c).uses-are ∙ ap (headUses start.args.v start.args.q.now c.before.h.given.0.1.0) e)
+    sym ((head-is c).uses-are ∙ ap (head_uses start.args.v start.args.q.now c.before.h.given.0.1.0) e)
 
 patterns-have-requires : tie.Need-patterns-have-requires
 patterns-have-requires c κs =
     let start = c.before.before.before.before.before.before.before.before in
     let found =
     sym c.before.before.before.before.before.before.read_head.ensures
-    ∙ ap nodeFound c.before.before.before.before.h.given.1 in (
+    ∙ ap node_found c.before.before.before.before.h.given.1 in (
       (node-head-inside start.args.q.now found).1,
       rw c.before.head.given.1 at
           (head-is c.before.before.before).patterns-sound,

@@ -1,6 +1,6 @@
 -- Slot by slot. Assumes nothing.
 use mathlib.Core.Path.{sym, ◌∙◌}
-use Rattle.slots.specs.Answers.{patternIn}
+use Rattle.slots.specs.Answers.{pattern_in}
 use Rattle.scope.proofs.Patterns.{pattern-slots}
 use borrow.Author.Rules.{rules}
 use Rattle.scope.proofs.pattern_has.Statement.{statement}
@@ -12,7 +12,7 @@ slot-has-requires c κs = search rules
 returns : tie.Need-returns
 returns c =
     let a = c.before.before.args in
-    sym (pattern-slots a.v (patternIn a.p) ∙ rw (sym c.before.slot_Has.ensures ∙ c.if1.true))
+    sym (pattern-slots a.v (pattern_in a.p) ∙ rw (sym c.before.slot_Has.ensures ∙ c.if1.true))
 
 slot-has-requires-2 : tie.Need-slot-has-requires-2
 slot-has-requires-2 c κs = search rules
@@ -20,7 +20,7 @@ slot-has-requires-2 c κs = search rules
 returns-2 : tie.Need-returns-2
 returns-2 c =
     let a = c.before.before.before.before.args in
-    sym (pattern-slots a.v (patternIn a.p) ∙ rw (
+    sym (pattern-slots a.v (pattern_in a.p) ∙ rw (
       sym c.before.before.before.slot_Has.ensures ∙ c.before.before.if1.false,
       sym c.before.slot-has2.ensures ∙ c.if2.true,
     ))
@@ -32,7 +32,7 @@ returns-3 : tie.Need-returns-3
 returns-3 c =
     let a = c.before.before.before.before.before.args in
     c.slot-has3.ensures
-    ∙ sym (pattern-slots a.v (patternIn a.p) ∙ rw (
+    ∙ sym (pattern-slots a.v (pattern_in a.p) ∙ rw (
       sym c.before.before.before.before.slot_Has.ensures
           ∙ c.before.before.before.if1.false,
       sym c.before.before.slot-has2.ensures ∙ c.before.if2.false,

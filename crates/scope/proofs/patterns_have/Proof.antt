@@ -4,8 +4,8 @@ use Prim.Native.Nat.{◌+◌, ◌≤◌}
 use native.Mathlib.Omega.{arith}
 use borrow.Author.Rules.{rules}
 use lib.ListN.{length, drop, length-drop}
-use Rattle.tsparql.specs.Reading.{got, patternAt, readPattern}
-use Rattle.slots.specs.Answers.{patternIn, slotsAt}
+use Rattle.tsparql.specs.Reading.{got, pattern_at, read_pattern}
+use Rattle.slots.specs.Answers.{pattern_in, slots_at}
 use Rattle.query.proofs.ReadLaws.{part-drop}
 use Rattle.query.proofs.PatternParts.{pattern-there}
 use Rattle.scope.proofs.Patterns.{have-none, have-here, have-next, HaveLeft}
@@ -24,17 +24,17 @@ loop-holds c = (record { same = refl; sound = c.before.requires.1 }, omega arith
 -- in a turn the next pattern's bytes are there
 there : (c : tie.In-loop invariant-loop decreases-loop)
     → let rest = drop c.before.loop.p c.before.before.before.args.q.now in
-    (9 ≤ length rest) × (readPattern rest ≡ got (patternAt rest) 9)
+    (9 ≤ length rest) × (read_pattern rest ≡ got (pattern_at rest) 9)
 there c = pattern-there c.before.loop.left _ (omega arith) c.before.loop.invariant.0.sound
 
 -- and it is the pattern at hand
 found : (c : tie.After-pattern-at invariant-loop decreases-loop)
     → let turn = c.before.before.before in
-    readPattern (drop turn.loop.p turn.before.before.args.q.now) ≡ got (patternIn c.pattern-at.result) 9
+    read_pattern (drop turn.loop.p turn.before.before.args.q.now) ≡ got (pattern_in c.pattern-at.result) 9
 found c =
     let turn = c.before.before.before in
     let part = part-drop turn.before.before.args.q.now turn.loop.p in
-    (there c.before.before).1 ∙ ap (λ p. got (patternIn p) 9) (sym (c.pattern-at.ensures ∙ ap slotsAt part))
+    (there c.before.before).1 ∙ ap (λ p. got (pattern_in p) 9) (sym (c.pattern-at.ensures ∙ ap slots_at part))
 
 -- the place behind it
 inside : (c : tie.In-loop invariant-loop decreases-loop) → c.before.loop.p + 9 ≤ length c.before.before.before.args.q.now

@@ -1,7 +1,7 @@
 -- By the head. Assumes nothing.
 use mathlib.Core.Path.{◌≡◌, sym, ap, ◌∙◌}
-use Rattle.heads.specs.Answers.{nodeFound}
-use Rattle.scope.specs.Variables.{headVariable, foundVariable, projectedIn}
+use Rattle.heads.specs.Answers.{node_found}
+use Rattle.scope.specs.Variables.{head_variable, found_variable, projected_in}
 use Rattle.heads.specs.declared.Head.{Head}
 use borrow.Author.Rules.{rules}
 use Rattle.scope.proofs.projected.Statement.{statement}
@@ -17,7 +17,7 @@ enum_told : tie.Need-enum-told
 enum_told c = search rules
 
 returns : tie.Need-returns
-returns c = sym (ap foundVariable (sym c.before.before.read_head.ensures ∙ ap nodeFound c.enum_told.given.1))
+returns c = sym (ap found_variable (sym c.before.before.read_head.ensures ∙ ap node_found c.enum_told.given.1))
 
 enum-told-2 : tie.Need-enum-told-2
 enum-told-2 c = search rules
@@ -42,9 +42,9 @@ enum-told-7 c = search rules
 
 -- the variable, by the head's case
 variable-by : (c : tie.After-known-told) (h : Head) → c.before.h.given.0.0 ≡ h
-    → headVariable h ≡ projectedIn c.before.before.before.before.before.args.q.now
+    → head_variable h ≡ projected_in c.before.before.before.before.before.args.q.now
 variable-by c h e =
-    sym (ap foundVariable (sym c.before.before.before.read_head.ensures ∙ ap nodeFound c.before.h.given.1) ∙ ap headVariable e)
+    sym (ap found_variable (sym c.before.before.before.read_head.ensures ∙ ap node_found c.before.h.given.1) ∙ ap head_variable e)
 
 returns-2 : tie.Need-returns-2
 returns-2 c = variable-by c.before.before _ c.enum-told2.given.1

@@ -5,12 +5,12 @@ use native.Mathlib.Omega.{arith}
 use borrow.Author.Rules.{rules}
 use Rattle.text.specs.Writing.{Puts}
 use Rattle.text.proofs.WritingLaws.{puts_none, puts-length}
-use Rattle.text.proofs.RowText.{cellsBelow, cells-more}
+use Rattle.text.proofs.RowText.{cells_below, cells-more}
 use Rattle.text.proofs.put_cells.Statement.{statement}
 use Rattle.text.proofs.put_cells.Tie as tie
 
 abbrev invariant-loop : tie.invariant-loop
-invariant-loop out₀ at row place₀ v₀ out place v = (v ≤ 16) × Puts (cellsBelow row v) at out₀ out place
+invariant-loop out₀ at row place₀ v₀ out place v = (v ≤ 16) × Puts (cells_below row v) at out₀ out place
 
 abbrev decreases-loop : tie.decreases-loop
 decreases-loop out₀ at row place₀ v₀ out place v = 16 - v

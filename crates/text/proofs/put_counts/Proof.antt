@@ -1,6 +1,6 @@
 -- Seven texts in a row. Assumes nothing.
 use borrow.Author.Rules.{rules}
-use Rattle.tsparql.specs.Strikes.{ascii, countsLine}
+use Rattle.tsparql.specs.Strikes.{ascii, counts_line}
 use Rattle.text.proofs.WritingLaws.{puts_then}
 use Rattle.text.proofs.put_counts.Statement.{statement}
 use Rattle.text.proofs.put_counts.Tie as tie
@@ -39,7 +39,7 @@ same_length : tie.Need-same-length
 same_length c = search rules
 
 returns : tie.Need-returns
-unfolding countsLine ascii
+unfolding counts_line ascii
 returns c =
     let line-end = c.before.before in
     let pairs = line-end.before.before.before.before in

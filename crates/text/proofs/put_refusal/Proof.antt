@@ -1,6 +1,6 @@
 -- Five texts in a row. Assumes nothing.
 use borrow.Author.Rules.{rules}
-use Rattle.tsparql.specs.Strikes.{ascii, refusedLine}
+use Rattle.tsparql.specs.Strikes.{ascii, refused_line}
 use Rattle.text.proofs.WritingLaws.{puts_then}
 use Rattle.text.proofs.put_refusal.Statement.{statement}
 use Rattle.text.proofs.put_refusal.Tie as tie
@@ -30,7 +30,7 @@ same_length : tie.Need-same-length
 same_length c = search rules
 
 returns : tie.Need-returns
-unfolding refusedLine ascii
+unfolding refused_line ascii
 returns c =
     let line-end = c.before.before in
     let place = line-end.before.before.before.before in

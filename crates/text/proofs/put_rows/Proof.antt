@@ -3,9 +3,9 @@ use mathlib.Core.Path.{◌≡◌}
 use Prim.Native.Nat.{◌-◌, ◌≤◌}
 use native.Mathlib.Omega.{arith}
 use borrow.Author.Rules.{rules}
-use Rattle.tsparql.specs.Lists.{concatMap}
+use Rattle.tsparql.specs.Lists.{concat_map}
 use Rattle.tsparql.specs.Strikes.{row_line}
-use Rattle.rows.specs.RowWords.{rowsIn}
+use Rattle.rows.specs.RowWords.{rows_in}
 use Rattle.text.specs.Writing.{Puts}
 use Rattle.text.proofs.WritingLaws.{puts_none, puts-length}
 use Rattle.text.proofs.RowText.{rows_more}
@@ -13,13 +13,13 @@ use Rattle.text.proofs.put_rows.Statement.{statement}
 use Rattle.text.proofs.put_rows.Tie as tie
 
 abbrev invariant-loop : tie.invariant-loop
-invariant-loop space n out₀ at place₀ i₀ out place i = (i ≤ n) × Puts (concatMap row_line (rowsIn i space)) at out₀ out place
+invariant-loop space n out₀ at place₀ i₀ out place i = (i ≤ n) × Puts (concat_map row_line (rows_in i space)) at out₀ out place
 
 abbrev decreases-loop : tie.decreases-loop
 decreases-loop space n out₀ at place₀ i₀ out place i = n - i
 
 loop-holds : tie.Need-loop-init invariant-loop decreases-loop
-unfolding rowsIn
+unfolding rows_in
 loop-holds c = (omega arith, puts_none _ _)
 
 row-at-requires : tie.Need-row-at-requires invariant-loop decreases-loop

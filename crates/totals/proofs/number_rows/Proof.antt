@@ -4,7 +4,7 @@ use Prim.Native.Nat.{ℕ, ◌-◌}
 use native.Mathlib.Omega.{arith}
 use lib.ListN.{length, length-replicate}
 use borrow.Author.Rules.{rules}
-use Rattle.totals.specs.Chains.{bucketCount}
+use Rattle.totals.specs.Chains.{bucket_count}
 use Rattle.totals.proofs.ChainLaws.{chained-none}
 use Rattle.totals.proofs.NumberLaws.{NumberedTo, numbered-none, numbered_more, numbered-all}
 use Rattle.totals.proofs.number_rows.Statement.{statement}
@@ -65,7 +65,7 @@ same_length c = c.before.loop.invariant.len
 same-length-2 : tie.Need-same-length-2 invariant-loop decreases-loop
 same-length-2 c =
     let pre = c.before.before.before.before.before.before.requires in
-    c.before.loop.invariant.chains.buckets ∙ sym (ap length pre.4 ∙ length-replicate {A = ℕ} bucketCount 0)
+    c.before.loop.invariant.chains.buckets ∙ sym (ap length pre.4 ∙ length-replicate {A = ℕ} bucket_count 0)
 
 same-length-3 : tie.Need-same-length-3 invariant-loop decreases-loop
 same-length-3 c = c.before.loop.invariant.chains.room ∙ sym c.before.before.before.before.before.before.requires.5

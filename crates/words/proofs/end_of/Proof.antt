@@ -64,9 +64,9 @@ returns-2 c =
     let closed = opened.before.before.before in
     let start = closed.before.before.before.before in
     let a = start.args in
-    let notClosing = sym closed.closes.ensures ∙ opened.before.before.if1.false in
+    let not_closing = sym closed.closes.ensures ∙ opened.before.before.if1.false in
     let opening = sym opened.opens.ensures ∙ c.before.if2.true in
-    closed-place (closed-opening a.t.now a.ends.now a.i (search rules) start.requires.1 notClosing opening)
+    closed-place (closed-opening a.t.now a.ends.now a.i (search rules) start.requires.1 not_closing opening)
 
 returns-3 : tie.Need-returns-3
 returns-3 c =
@@ -74,9 +74,9 @@ returns-3 c =
     let closed = opened.before.before.before in
     let start = closed.before.before.before.before in
     let a = start.args in
-    let notClosing = sym closed.closes.ensures ∙ opened.before.before.if1.false in
-    let notOpening = sym opened.opens.ensures ∙ c.if2.false in
-    closed-place (closed-other a.t.now a.ends.now a.i (search rules) start.requires.1 notClosing notOpening)
+    let not_closing = sym closed.closes.ensures ∙ opened.before.before.if1.false in
+    let not_opening = sym opened.opens.ensures ∙ c.if2.false in
+    closed-place (closed-other a.t.now a.ends.now a.i (search rules) start.requires.1 not_closing not_opening)
 
 pub end-of-spec : {M : Type 1} → statement M
 end-of-spec =
