@@ -1,5 +1,6 @@
 // Blocks of bytes, one behind the other from the front of a lent buffer up to an end: a byte comes in front of a block or behind the
 // last one, and two neighbours change places. The functions that add a byte answer the new end; where there is no room nothing changes.
+#![tactic(auto)]
 ghost use Rattle.std.specs.Prelude.{[], ◌∷◌, ◌≡◌, ◌≤◌, ◌%◌};
 ghost use Rattle.tsparql.specs.Writing.{three_bytes};
 ghost use Rattle.blocks.specs.Buffers.{buffer, inserted, appended, exchanged};

@@ -1,4 +1,5 @@
 // Bounds on trust as a push carries them down: those of a node's operands, and what becomes of what stands before its operands.
+#![tactic(auto)]
 ghost use Rattle.std.specs.Prelude.{◌≡◌, ◌≤◌, max, min};
 ghost use Rattle.tsparql.specs.Push as Push;
 ghost use Rattle.bounds.specs.Bounds.{bound_in, is_bound, is_below, first_bound, second_bound, wrapped, stays, own_size};
@@ -6,7 +7,7 @@ ghost use Rattle.bounds.specs.Bounds.{bound_in, is_bound, is_below, first_bound,
 use heads::Head;
 
 // A bound on trust carried down from the root, plus 1000: none, or from l to u.
-#[derive(Drop)]
+#[derive(Clone, Copy)]
 pub enum Bound {
     Nothing,
     Between(u32, u32),

@@ -1,19 +1,21 @@
 // Trusts and cells as values, and as the words of the row space. Each promise is an equation with the definitions of `tsparql`,
 // by `trust_in` and `cell_in` of specs/Words.antt. A signed number is used here only: other crates see trusts, cells and words.
+#![tactic(auto)]
+
 ghost use Rattle.std.specs.Prelude.{◌≡◌, ◌≤◌};
 ghost use Rattle.tsparql.specs.Values.{same_trust, is_free, same_cell};
 ghost use Rattle.tsparql.specs.Evaluate.{trust_word};
 ghost use Rattle.cells.specs.Words.{shift, trust_in, cell_in, word_trust, word_cell, NumberInRange, InRange, CellInRange};
 
 // A trust in thousandths, from -1000 to 1000, or unknown.
-#[derive(Drop)]
+#[derive(Clone, Copy)]
 pub enum Trust {
     Known(i16),
     Unknown,
 }
 
 // What a row has for a variable.
-#[derive(Drop)]
+#[derive(Clone, Copy)]
 pub enum Cell {
     Free,
     Term(u32),

@@ -1,4 +1,5 @@
 // Query bytes of a condition from the words of its tokens.
+#![tactic(auto)]
 ghost use Rattle.std.specs.Prelude.{◌+◌, ◌≤◌, ◌<◌, length};
 ghost use Rattle.clauses.specs.Clauses.{Operand, Conditions, Connects};
 
@@ -6,14 +7,14 @@ use blocks::{append, append3, put};
 use words::{AND, BOUND, FIRST_NUMBER, LESS, LPAREN, NOT, OR, RPAREN, word};
 
 // Where the words and the bytes of what was read end.
-#[derive(Drop)]
+#[derive(Clone, Copy)]
 pub struct Block {
     pub next: usize,
     pub len: usize,
 }
 
 // The same for a condition that is being read; its last conjunction begins at `and`.
-#[derive(Drop)]
+#[derive(Clone, Copy)]
 pub struct Clause {
     pub next: usize,
     pub and: usize,

@@ -1,4 +1,5 @@
 // The passes over a group's items: its projections, its bounds and its filters around what is joined in it.
+#![tactic(auto)]
 ghost use Rattle.std.specs.Prelude.{◌∷◌, ◌≡◌, ◌≤◌, ◌<◌, length};
 ghost use Rattle.tsparql.specs.Query.{Node};
 ghost use Rattle.tsparql.specs.Writing.{node_bytes, three_bytes};
@@ -16,7 +17,7 @@ use words::{
 };
 
 // Two blocks, one behind the other.
-#[derive(Drop)]
+#[derive(Clone, Copy)]
 pub struct Halves {
     pub mid: usize,
     pub len: usize,

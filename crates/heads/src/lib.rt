@@ -1,6 +1,7 @@
 // Readers of the head of a condition or a node: what it is without its operands, and how many those are. A reader is given the part
 // of the query from there on, and answers the head with the place behind the head's own bytes, or where the fault is, both counted from
 // the part's start.
+#![tactic(auto)]
 ghost use Rattle.std.specs.Prelude.{◌≡◌};
 ghost use Rattle.heads.specs.Answers.{condition_found, node_found, fault_in};
 ghost use Rattle.heads.specs.Parts.{second_of, term_of, pair_head, term_head, connective, condition_head_read, condition_operands};
@@ -12,7 +13,7 @@ use slots::{bits_at, term_sound};
 pub const FAULT: u32 = 6;
 
 // A condition without its operands.
-#[derive(Drop)]
+#[derive(Clone, Copy)]
 pub enum ConditionHead {
     Bound(u8),
     Same(u8, u8),
@@ -25,14 +26,14 @@ pub enum ConditionHead {
 }
 
 // A condition's head and the next place, or the place of the fault.
-#[derive(Drop)]
+#[derive(Clone, Copy)]
 pub enum ConditionRead {
     Condition(ConditionHead, usize),
     Fault(usize),
 }
 
 // A node without its operands; the bounds of ensure trust stand plus 1000.
-#[derive(Drop)]
+#[derive(Clone, Copy)]
 pub enum Head {
     PatternSet(u8),
     Join,
@@ -44,7 +45,7 @@ pub enum Head {
 }
 
 // A node's head and the next place, or the place of the fault.
-#[derive(Drop)]
+#[derive(Clone, Copy)]
 pub enum NodeRead {
     Node(Head, usize),
     Fault(usize),

@@ -1,4 +1,5 @@
 // The tokens of a query text, or the place of its fault: the automaton's stack is an array of bytes, and each turn reads one token.
+#![tactic(auto)]
 ghost use Rattle.std.specs.Prelude.{false, ◌&&◌, ◌≡◌, ◌+◌, ◌*◌, ◌≤◌, ◌<◌, length};
 ghost use Rattle.grammar.specs.Tokens.{is_capital};
 ghost use Rattle.lexer.specs.Symbols.{Gives};
@@ -67,11 +68,11 @@ const IS_BOUND: u64 = 13518;
 const CONDITION: u64 = 267;
 
 // The symbols from the first to the second allow a token that begins with the byte, and the production is what then has to come.
-#[derive(Drop)]
+#[derive(Clone, Copy)]
 struct Rule(u8, u8, u8, u64);
 
 // What then has to come, or that no rule is for them.
-#[derive(Drop)]
+#[derive(Clone, Copy)]
 enum Follow {
     With(u64),
     Nothing,
@@ -152,7 +153,7 @@ fn clings(tight: bool, b: u8) -> bool
 // ---- one token
 
 // A token as a word, the place behind it, whether it ends a word, and what has to come after it.
-#[derive(Drop)]
+#[derive(Clone, Copy)]
 pub struct Lexeme {
     pub word: u32,
     pub next: usize,
@@ -161,14 +162,14 @@ pub struct Lexeme {
 }
 
 // The next token, or the place of the fault.
-#[derive(Drop)]
+#[derive(Clone, Copy)]
 pub enum Step {
     Token(Lexeme),
     Fault(usize),
 }
 
 // How many tokens the text has, or the place of its fault.
-#[derive(Drop)]
+#[derive(Clone, Copy)]
 pub enum Scanned {
     Tokens(usize),
     Fault(usize),

@@ -1,6 +1,7 @@
 // What is joined in a group, from the words of its tokens: triples in sets of fifteen, groups and unions joined, OPTIONAL groups
 // left-joined. A node is a block of a buffer: what is joined so far stands behind `from` bytes, and each operand is written behind it.
 // Groups: nodes that stand last; triples; a group.
+#![tactic(auto)]
 ghost use Rattle.std.specs.Prelude.{◌||◌, ◌≡◌, ◌≤◌, ◌<◌, eqb, leb, length, get_or, set};
 ghost use Rattle.blocks.specs.Buffers.{buffer, appended};
 ghost use Rattle.words.specs.Links.{Linked};
@@ -104,7 +105,7 @@ fn add(t: &[u32], i: usize, out: &mut [u8], n: usize, run: usize) -> usize
 
 // Where the gathering of a group stands: before the word `next`; what is joined ends at `mid`, an operand whose union goes on stands from
 // there to `len`; `run` triples are in the last set.
-#[derive(Drop)]
+#[derive(Clone, Copy)]
 pub struct Stage {
     pub next: usize,
     pub mid: usize,

@@ -1,5 +1,6 @@
 // Readers of a query: conditions and nodes with their operands. A reader is given the part of the query from there on, and
 // answers what it read with the next place, or where the fault is, both counted from the part's start.
+#![tactic(auto)]
 ghost use Rattle.std.specs.Prelude.{◌≡◌, ◌≤◌, length};
 ghost use Rattle.tsparql.specs.Reading.{read_condition, read_node};
 ghost use Rattle.heads.specs.Answers.{condition_found, node_found, fault_in, pattern_count};
@@ -14,7 +15,7 @@ use heads::{
 use slots::{PatternRead, read_pattern};
 
 // The next place, or the place of the fault.
-#[derive(Drop)]
+#[derive(Clone, Copy)]
 pub enum Place {
     At(usize),
     Fault(usize),

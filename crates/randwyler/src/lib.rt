@@ -1,4 +1,5 @@
 // The calls for C. Their names and layouts are in include/randwyler.h.
+#![tactic(auto)]
 ghost use Rattle.std.specs.Prelude.{◌≡◌, true, false, ◌<◌};
 ghost use Rattle.tsparql.specs.Check.{refuse, check};
 ghost use Rattle.tsparql.specs.Rewrite as Rewrite;
@@ -28,7 +29,7 @@ const NO_REFUSAL: u32 = 0;
 const NOTHING_WRITTEN: u64 = 0;
 
 // What a call sees of a sound table beside a sound query, or the first refusal.
-#[derive(Drop)]
+#[derive(Clone, Copy)]
 enum CheckAnswer {
     Sound(View),
     Refused { number: u32, place: usize },
@@ -51,7 +52,7 @@ fn check_both(table: &[u8], query: &[u8]) -> CheckAnswer
 
 // Number and place of the first refusal that applies; both are 0 where none does.
 #[repr(C)]
-#[derive(Drop)]
+#[derive(Clone, Copy)]
 pub struct Refusal {
     pub number: u32,
     pub place: u64,
@@ -78,7 +79,7 @@ pub extern "C" fn randwyler_check(table: &[u8], query: &[u8]) -> Refusal
 
 // A refusal, or the length of the result at the front of the output; what does not apply is 0.
 #[repr(C)]
-#[derive(Drop)]
+#[derive(Clone, Copy)]
 pub struct Rewritten {
     pub number: u32,
     pub place: u64,
@@ -129,7 +130,7 @@ pub extern "C" fn randwyler_read_text(text: &[u8], output: &mut [u8]) -> Rewritt
 
 // A refusal, or a number that the query's rows never exceed; what does not apply is 0.
 #[repr(C)]
-#[derive(Drop)]
+#[derive(Clone, Copy)]
 pub struct Ceiling {
     pub number: u32,
     pub place: u64,
@@ -169,7 +170,7 @@ pub extern "C" fn randwyler_ceiling_of(table: &[u8], query: &[u8]) -> Ceiling
 
 // How many calls that take it were answered, and how many refused; each stops at 4,294,967,295.
 #[repr(C)]
-#[derive(Drop)]
+#[derive(Clone, Copy)]
 pub struct Tally {
     pub answered: u32,
     pub refused: u32,
@@ -177,7 +178,7 @@ pub struct Tally {
 
 // A refusal, or the counts of an answer; what does not apply is 0. The tally comes back with one of its two raised.
 #[repr(C)]
-#[derive(Drop)]
+#[derive(Clone, Copy)]
 pub struct Evaluated {
     pub number: u32,
     pub place: u64,
@@ -292,7 +293,7 @@ const LAST_VARIABLE: u32 = 15;
 
 // A refusal, or how many words of the output the entries take; what does not apply is 0. The tally comes back with one of its two raised.
 #[repr(C)]
-#[derive(Drop)]
+#[derive(Clone, Copy)]
 pub struct Totalled {
     pub number: u32,
     pub place: u64,

@@ -1,4 +1,5 @@
 // A typed query: the text into words, their links, and the query's bytes from a buffer into the output.
+#![tactic(auto)]
 ghost use Rattle.std.specs.Prelude.{◌≡◌, ◌≤◌, length};
 ghost use Rattle.grammar.specs.ReadText.{read_text};
 ghost use Rattle.words.specs.Links.{Linked};
@@ -14,7 +15,7 @@ use words::link;
 const TEXT_LIMIT: usize = 4096;
 
 // So many bytes were written, or nothing.
-#[derive(Drop)]
+#[derive(Clone, Copy)]
 pub enum ReadAnswer {
     Written(usize),
     Refused { number: u32, place: usize },

@@ -1,5 +1,6 @@
 // Rewriting: the push of a query, on bytes. What stands before a node's operands, its head with its patterns or its condition, is copied
 // from the query; ensure trust goes, and comes back where a bound wraps a node.
+#![tactic(auto)]
 ghost use Rattle.std.specs.Prelude.{◌≡◌, ◌+◌, ◌^◌, ◌≤◌, ◌<◌, length, take};
 ghost use Rattle.tsparql.specs.Push.{push, BoundFormed};
 ghost use Rattle.tsparql.specs.Reading.{got};
@@ -19,14 +20,14 @@ use query::read_own;
 use scope::{QueryAnswer, check_query};
 
 // The size of a node's push and the place behind the node, or the refusal.
-#[derive(Drop)]
+#[derive(Clone, Copy)]
 enum Pushed {
     Node(usize, usize),
     Refused { number: u32, place: usize },
 }
 
 // The length of the result at the front of the output, or the refusal.
-#[derive(Drop)]
+#[derive(Clone, Copy)]
 pub enum RewriteAnswer {
     Written(usize),
     Refused { number: u32, place: usize },

@@ -1,4 +1,5 @@
 // What a text has at a place: white space, fixed tokens, numbers.
+#![tactic(auto)]
 ghost use Rattle.std.specs.Prelude.{◌≡◌, ◌≤◌, ◌<◌, length, drop, get_or};
 ghost use Rattle.grammar.specs.Tokens.{is_capital};
 ghost use Rattle.scanner.specs.Scans.{skip_from, common, number_from, numeral_from};
@@ -45,7 +46,7 @@ fn shared(text: &[u8], word: &[u8]) -> usize
 }
 
 // How many bytes of a token a text begins with: all of them, or a part.
-#[derive(Drop)]
+#[derive(Clone, Copy)]
 pub enum Literal {
     Whole(usize),
     Part(usize),
@@ -114,7 +115,7 @@ pub fn capital(b: u8) -> bool
 // ---- numbers
 
 // A number's value, and the place behind it.
-#[derive(Drop)]
+#[derive(Clone, Copy)]
 pub struct Numeric {
     pub value: u32,
     pub next: usize,
@@ -149,7 +150,7 @@ fn number(s: &[u8], at: usize, v: u32, u: u32) -> Numeric
 }
 
 // The same, or that there is no number.
-#[derive(Drop)]
+#[derive(Clone, Copy)]
 pub enum Digits {
     Value(u32, usize),
     Missing,

@@ -1,4 +1,6 @@
 // The variables of a query, for refusal 7, and the check of a query: refusals 5 to 7.
+#![tactic(auto)]
+
 ghost use Rattle.std.specs.Prelude.{◌≡◌, ◌≤◌, length};
 ghost use Rattle.tsparql.specs.Reading.{slot_of, query_node};
 ghost use Rattle.tsparql.specs.Check.{slot_variables, variables_of, variables_refusal};
@@ -11,14 +13,14 @@ use query::{Place, next_node, read_node};
 use slots::{FIRST_VARIABLE, PATTERN_BYTES, Pattern, pattern_at};
 
 // A clash of variables, at a project trust node.
-#[derive(Drop)]
+#[derive(Clone, Copy)]
 pub enum Clash {
     Nowhere,
     At(usize),
 }
 
 // Whether a query is sound, or its refusal.
-#[derive(Drop)]
+#[derive(Clone, Copy)]
 pub enum QueryAnswer {
     Sound,
     Refused { number: u32, place: usize },

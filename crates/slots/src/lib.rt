@@ -1,4 +1,6 @@
 // Readers of a query's 24 bits: terms, slots, and patterns of three slots.
+#![tactic(auto)]
+
 ghost use Rattle.std.specs.Prelude.{◌≡◌, ◌+◌, ◌≤◌, ◌<◌, length};
 ghost use Rattle.tsparql.specs.Reading.{bits24, term_sound, slot_sound, read_pattern};
 ghost use Rattle.slots.specs.Answers.{slots_at, slots_sound, pattern_found};
@@ -9,7 +11,7 @@ pub const FIRST_VARIABLE: u32 = 1048576;
 pub const PATTERN_BYTES: usize = 9;
 
 // A pattern by its slots' 24 bits: below 1,048,576 a term, else 1,048,576 and a variable.
-#[derive(Drop)]
+#[derive(Clone, Copy)]
 pub struct Pattern {
     pub subject: u32,
     pub predicate: u32,
@@ -17,7 +19,7 @@ pub struct Pattern {
 }
 
 // A pattern and the next place, or the place of the fault.
-#[derive(Drop)]
+#[derive(Clone, Copy)]
 pub enum PatternRead {
     Found(Pattern, usize),
     Fault(usize),

@@ -1,6 +1,7 @@
 // Evaluates the query in `query.bin` over the facts in `facts.bin`, both in the current folder, and prints what `report` promises: the
 // counts and the rows, or a refusal. An absent file is an empty one. Of a file that is too long one byte past its limit is read, which
 // is enough (strikes-fronts of report's LongFiles).
+#![tactic(auto)]
 ghost use Rattle.io.specs.Counts.{IsPrefixLen};
 
 use libc::STDOUT_FILENO;

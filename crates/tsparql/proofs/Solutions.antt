@@ -1,7 +1,7 @@
 -- A pattern set over facts whose triples rise lists every solution once and nothing else (`cardinality-set`), as Definition 2.3 of source
 -- document 000 has it: a row is listed as often as a tuple of records (Tuples) gives it. Groups: one variable; a tuple that gives the
 -- cells; the only such tuple; pattern sets. What it means for the nodes of a query is in Published. Assumes nothing.
-use mathlib.Core.Path.{◌≡◌, refl, sym, ap, ◌∙◌}
+use mathlib.Core.Path.{◌≡◌, refl, sym, ap, subst, ◌∙◌}
 use mathlib.Core.Bool.{Bool, true, false, ◌&&◌, ◌||◌, not, and_comm, and_assoc, and_self, or_assoc}
 use mathlib.Core.List.{List, [], ◌∷◌, ◌++◌, map}
 use Prim.Native.Nat.{ℕ, zero, suc, ◌≤◌, ◌<◌, zero-le}
@@ -79,7 +79,10 @@ has_terms-more cs w b v bs = at (eqb v w) refl
   where
     at : (t : Bool) → eqb v w ≡ t
         → has_terms (cell_at cs v) (only_if t (b ∷ []) ++ bs) ≡ (not t || same_cell (cell_at cs w) (term b)) && has_terms (cell_at cs v) bs
-    at true e = rw (eqb-true v w e)
+    at true e =
+        subst
+        (λ (u : ℕ). has_terms (cell_at cs u) (b ∷ bs) ≡ (not true || same_cell (cell_at cs w) (term b)) && has_terms (cell_at cs u) bs)
+        (sym (eqb-true v w e)) refl
     at false e = refl
 
 -- by slots or by variables, it is the same that is asked
