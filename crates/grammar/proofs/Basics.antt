@@ -2,7 +2,7 @@
 -- it. Assumes nothing.
 use mathlib.Core.Path.{◌≡◌, refl, sym, ap, ◌∙◌, subst⁻¹}
 use mathlib.Core.Bool.{Bool, true, false, cond}
-use mathlib.Core.List.{List, ◌∷◌, Memᴰ}
+use mathlib.Core.List.{List, [], ◌∷◌, Memᴰ}
 use Prim.Native.Nat.{ℕ, ◌+◌, ◌<◌}
 use native.Mathlib.Numerals.{add-one}
 use lib.ListN.{length, drop, get_or}
@@ -14,6 +14,7 @@ cond_cases P true f g = f refl
 cond_cases P false f g = g refl
 
 pub every-member : {A : Type 0} (P : A → Type 0) {x : A} (xs : List A) → Every P xs → Memᴰ x xs → P x
+every-member P [] h m = elim m [ ]
 every-member P (y ∷ ys) h (Memᴰ.head q) = subst⁻¹ P q h.0
 every-member P (y ∷ ys) h (Memᴰ.tail m) = every-member P ys h.1 m
 

@@ -50,10 +50,10 @@ pub data Said : Type 0 where
   a_place : ℕ → Said
   an_answer : Rewritten → Said
 
-infix 10 ◌means◌ ◌stopsAt◌ ◌into◌answers◌
+infix 10 ◌means◌ ◌stops_at◌ ◌into◌answers◌
 pub data Case : Type 0 where
   ◌means◌ : List ℕ → Node → Case
-  ◌stopsAt◌ : List ℕ → ℕ → Case
+  ◌stops_at◌ : List ℕ → ℕ → Case
   -- for an output of so many sevens
   ◌into◌answers◌ : List ℕ → ℕ → Rewritten → Case
 

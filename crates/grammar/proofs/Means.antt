@@ -3,7 +3,7 @@
 use mathlib.Core.Path.{◌≡◌, refl, sym, ap, ◌∙◌, subst}
 use mathlib.Core.Bool.{Bool, true, false}
 use mathlib.Core.List.{List, [], ◌∷◌}
-use mathlib.Core.Option.{none, some, some-injective}
+use mathlib.Core.Option.{some, some-injective}
 use Prim.Native.Nat.{ℕ}
 use Rattle.tsparql.specs.Strikes.{ascii}
 use Rattle.tsparql.specs.Query.{Condition, Node, union}
