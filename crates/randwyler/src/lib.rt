@@ -1,4 +1,4 @@
-// The calls for C. Their names and layouts are in include/randwyler.h.
+// The calls. For C they stand in randwyler_c; their names and layouts are in include/randwyler.h.
 #![tactic(auto)]
 ghost use Rattle.std.specs.Prelude.{◌≡◌, true, false, ◌<◌};
 ghost use Rattle.tsparql.specs.Check.{refuse, check};
@@ -59,8 +59,7 @@ pub struct Refusal {
 }
 
 // The check of a table and a query: refusals 1 to 7. Nothing is written.
-#[unsafe(no_mangle)]
-pub extern "C" fn randwyler_check(table: &[u8], query: &[u8]) -> Refusal
+pub fn randwyler_check(table: &[u8], query: &[u8]) -> Refusal
     ensures { refusal_in result ≡ check table.now query.now }
 {
     match check_both(table, query) {
@@ -87,8 +86,7 @@ pub struct Rewritten {
 }
 
 // The rewriting of a query into a lent output: refusals 5 to 7 and 9. Past the result, and on a refusal, the output is unchanged.
-#[unsafe(no_mangle)]
-pub extern "C" fn randwyler_rewrite(query: &[u8], output: &mut [u8]) -> Rewritten
+pub fn randwyler_rewrite(query: &[u8], output: &mut [u8]) -> Rewritten
     ensures { rewritten_in result output.new ≡ Rewrite.rewrite query.now output.old }
 {
     match rewrite(query, output) {
@@ -108,8 +106,7 @@ pub extern "C" fn randwyler_rewrite(query: &[u8], output: &mut [u8]) -> Rewritte
 // ---- typed queries
 
 // The query bytes of a text into a lent output: refusals 11 and 12. Past the bytes, and on a refusal, the output is unchanged.
-#[unsafe(no_mangle)]
-pub extern "C" fn randwyler_read_text(text: &[u8], output: &mut [u8]) -> Rewritten
+pub fn randwyler_read_text(text: &[u8], output: &mut [u8]) -> Rewritten
     ensures { rewritten_in result output.new ≡ read_text text.now output.old }
 {
     match read_text(text, output) {
@@ -148,8 +145,7 @@ fn ceiling_refused(number: u32, place: usize) -> Ceiling
 }
 
 // The ceiling of a query over a table: refusals 1 to 7. Nothing is written.
-#[unsafe(no_mangle)]
-pub extern "C" fn randwyler_ceiling_of(table: &[u8], query: &[u8]) -> Ceiling
+pub fn randwyler_ceiling_of(table: &[u8], query: &[u8]) -> Ceiling
     ensures { ceiling_in result ≡ ceiling_call table.now query.now }
 {
     let c = check_both(table, query);
@@ -267,8 +263,7 @@ fn evaluate_checked(
 
 // The evaluation of a query over a table in a lent row space, by mean or least trust: refusals 1 to 7 with the row space untouched, 8 with
 // it all zero; else the rows at the front and zeros behind them.
-#[unsafe(no_mangle)]
-pub extern "C" fn randwyler_evaluate(
+pub fn randwyler_evaluate(
     table: &[u8],
     query: &[u8],
     mean: bool,
@@ -355,8 +350,7 @@ fn totals_checked(
 // how many rows have it, the least of their trusts. Refusals 1 to 7 and 10 for the variable, with the row space untouched; 8 with it all
 // zero; and 10 for an output that is too short, with the rows in it as in an answer. Behind the entries, and on a refusal, the output is as
 // it was.
-#[unsafe(no_mangle)]
-pub extern "C" fn randwyler_totals_of(
+pub fn randwyler_totals_of(
     table: &[u8],
     query: &[u8],
     mean: bool,
