@@ -1,5 +1,6 @@
 // The tokens of a text as words, and where its brackets close. What an array of ends holds behind the last word is free.
 #![tactic(auto)]
+
 ghost use Rattle.std.specs.Prelude.{◌≡◌, ◌+◌, ◌≤◌, ◌<◌, length, get_or};
 ghost use Rattle.words.specs.Links.{is_opening, is_closing, closing, LinkedFrom, Linked, Links};
 
