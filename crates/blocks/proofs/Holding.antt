@@ -2,17 +2,15 @@
 -- changed places (`exchanges`), which three reversals do (`exchange-reversals`). Assumes nothing.
 use mathlib.Core.Path.{◌≡◌, refl, sym, ap, ◌∙◌, subst}
 use mathlib.Core.Bool as B
-use mathlib.Core.List.{List, [], ◌∷◌, ◌++◌, append_assoc, append-nil}
+use mathlib.Core.List.{List, [], ◌∷◌, ◌++◌, append_assoc, append-nil, reverse, reverse-append, reverse-reverse}
 use mathlib.Core.Logic.{◌⊎◌, ⊎_elim}
 use Prim.Native.Nat.{ℕ, suc, ◌+◌, ◌-◌, ◌≤◌, ◌<◌}
 use native.Mathlib.Omega.{arith}
 use lib.ListN.{length, take, drop, get_or, length-append, length-drop, length-reverse, take-append-drop}
-use lib.Seq.{drop-cons, drop-drop, take_at, drop_at, drop-append-add, length-take-le}
+use lib.Seq.{drop-cons, drop-drop, take_at, drop_at, drop-append-add, length-take-le, take-add}
 use lib.Dec.{leb}
 use borrow.Author.Tests.{le-leb, lt-leb, lt-ltb}
-use Rattle.bytes.specs.Bytes.{rev, slice}
-use Rattle.bytes.proofs.Laws.{rev-rev-append}
-use Rattle.blocks.specs.Buffers.{Buffer, buffer, shifted, inserted, prepended, appended, exchanged}
+use Rattle.blocks.specs.Buffers.{Buffer, buffer, shifted, inserted, prepended, appended, slice, reversed, exchanged}
 use Rattle.blocks.specs.Blocks.{Holds, Puts, Appends, Exchanges}
 
 -- the bytes that are held, and the rest of the buffer
@@ -132,12 +130,11 @@ appended-on bs cs b e f = f ∙ ap (λ (x : Buffer). appended x cs) e ∙ append
 
 -- what a reversal from i to m leaves
 abbrev pub Reversed : List ℕ → List ℕ → ℕ → ℕ → Type 0
-Reversed l l' i m = l' ≡ take i l ++ (rev (slice i m l) ++ drop m l)
+Reversed l l' i m = l' ≡ reversed l i m
 
 reversed-part :
     (l l' p q z : List ℕ) (i m : ℕ) → Reversed l l' i m → l ≡ p ++ (q ++ z) → length p ≡ i → length p + length q ≡ m
-    → l' ≡ p ++ (rev q ++ z)
-unfolding slice
+    → l' ≡ p ++ (reverse q ++ z)
 reversed-part l l' p q z i m r e a b =
     let n : length (p ++ q) ≡ m = length-append p q ∙ b in
     let w : l ≡ (p ++ q) ++ z = e ∙ sym (append_assoc p q z) in
@@ -146,9 +143,25 @@ reversed-part l l' p q z i m r e a b =
     let d : drop m l ≡ z = ap (drop m) w ∙ drop_at (p ++ q) z m n in
     r ∙ rw (f, s, d)
 
-length-rev : (q : List ℕ) → length (rev q) ≡ length q
-unfolding rev
+length-rev : (q : List ℕ) → length (reverse q) ≡ length q
 length-rev q = length-reverse q
+
+-- two reversed lists, reversed together
+rev-rev-append : (a b : List ℕ) → reverse (reverse a ++ reverse b) ≡ b ++ a
+rev-rev-append a b = rw (reverse-append (reverse a) (reverse b), reverse-reverse a, reverse-reverse b)
+
+-- what a write to the bytes from i to m leaves, where it reverses them
+pub reversed-write :
+    (l ys : List ℕ) (i m : ℕ) → ys ≡ reverse (take (m - i) (drop i l)) → i ≤ m → m ≤ length l
+    → take i l ++ (ys ++ drop (m - i) (drop i l)) ≡ reversed l i m
+reversed-write l ys i m e h k =
+    let on : i + (m - i) ≡ m = omega arith in
+    let w : take m l ≡ take i l ++ take (m - i) (drop i l) =
+    ap (λ (n : ℕ). take n l) (sym on) ∙ take-add i (m - i) l in
+    let s : drop i (take m l) ≡ take (m - i) (drop i l) =
+    ap (drop i) w ∙ drop_at (take i l) (take (m - i) (drop i l)) i (length-take-le i l (omega arith)) in
+    let d : drop (m - i) (drop i l) ≡ drop m l = drop-drop (m - i) i l ∙ ap (λ (n : ℕ). drop n l) on in
+    rw (e, s, d)
 
 -- the blocks a and b, of a whole buffer
 exchange-blocks :
@@ -156,18 +169,17 @@ exchange-blocks :
     → Reversed l l₁ i m → Reversed l₁ l₂ m e → Reversed l₂ l₃ i e → l₃ ≡ pre ++ (b ++ (a ++ D))
 exchange-blocks l l₁ l₂ l₃ pre a b D i m e e₀ p n q r₁ r₂ r₃ =
     let e₁ = reversed-part l l₁ pre a (b ++ D) i m r₁ e₀ p (omega arith) in
-    let e₂ = reversed-part l₁ l₂ (pre ++ rev a) b D m e r₂ (e₁ ∙ sym (append_assoc pre (rev a) (b ++ D)))
-    (omega (arith, length-append pre (rev a), length-rev a)) (omega (arith, length-append pre (rev a), length-rev a)) in
-    let e₃ = reversed-part l₂ l₃ pre (rev a ++ rev b) D i e r₃
-    (e₂ ∙ append_assoc pre (rev a) (rev b ++ D) ∙ ap (λ (x : List ℕ). pre ++ x) (sym (append_assoc (rev a) (rev b) D))) p
-    (omega (arith, length-append (rev a) (rev b), length-rev a, length-rev b)) in
+    let e₂ = reversed-part l₁ l₂ (pre ++ reverse a) b D m e r₂ (e₁ ∙ sym (append_assoc pre (reverse a) (b ++ D)))
+    (omega (arith, length-append pre (reverse a), length-rev a)) (omega (arith, length-append pre (reverse a), length-rev a)) in
+    let e₃ = reversed-part l₂ l₃ pre (reverse a ++ reverse b) D i e r₃
+    (e₂ ∙ append_assoc pre (reverse a) (reverse b ++ D) ∙ ap (λ (x : List ℕ). pre ++ x) (sym (append_assoc (reverse a) (reverse b) D))) p
+    (omega (arith, length-append (reverse a) (reverse b), length-reverse a, length-rev b)) in
     e₃ ∙ ap (λ (x : List ℕ). pre ++ (x ++ D)) (rev-rev-append a b) ∙ ap (λ (x : List ℕ). pre ++ x) (append_assoc b a D)
 
 -- the parts of such a buffer
 parts :
     (l pre a b D : List ℕ) (i m e : ℕ) → l ≡ pre ++ (a ++ (b ++ D)) → length pre ≡ i → i + length a ≡ m → m + length b ≡ e
     → take i l ++ (slice m e l ++ (slice i m l ++ drop e l)) ≡ pre ++ (b ++ (a ++ D))
-unfolding slice
 parts l pre a b D i m e w p n q =
     let u : l ≡ (pre ++ a) ++ (b ++ D) = w ∙ sym (append_assoc pre a (b ++ D)) in
     let v : l ≡ ((pre ++ a) ++ b) ++ D = u ∙ sym (append_assoc (pre ++ a) b D) in

@@ -1,7 +1,7 @@
 -- A buffer in use up to an end, after a byte or bytes came in (`inserted`, `prepended`), after bytes came behind the end (`appended`), and
 -- after two neighbouring parts changed places (`exchanged`). Assumes nothing.
 use Rattle.std.specs.Prelude.{Bool, cond, ◌&&◌, List, [], ◌∷◌, ◌++◌, ℕ, ◌+◌, ◌-◌, leb, ltb, length, take, drop}
-use Rattle.bytes.specs.Bytes.{slice}
+use mathlib.Core.List.{reverse}
 
 pub record Buffer : Type 0 where
   pub bytes : List ℕ
@@ -31,6 +31,14 @@ prepended b i (v ∷ vs) = inserted (prepended b i vs) i v
 unfoldable pub appended : Buffer → List ℕ → Buffer
 appended b [] = b
 appended b (v ∷ vs) = appended (inserted b b.end v) vs
+
+-- the bytes from i to m
+abbrev pub slice : ℕ → ℕ → List ℕ → List ℕ
+slice i m l = drop i (take m l)
+
+-- the bytes from i to m come the other way round
+abbrev pub reversed : List ℕ → ℕ → ℕ → List ℕ
+reversed l i m = take i l ++ (reverse (slice i m l) ++ drop m l)
 
 -- the bytes from i to m and those from m to e change places; nothing changes where the places are in no such order
 unfoldable pub exchanged : List ℕ → ℕ → ℕ → ℕ → List ℕ

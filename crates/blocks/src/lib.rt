@@ -1,11 +1,10 @@
 // Blocks of bytes, one behind the other from the front of a lent buffer up to an end: a byte comes in front of a block or behind the
 // last one, and two neighbours change places. The functions that add a byte answer the new end; where there is no room nothing changes.
 #![tactic(auto)]
-ghost use Rattle.std.specs.Prelude.{[], ◌∷◌, ◌≡◌, ◌≤◌, ◌%◌};
-ghost use Rattle.tsparql.specs.Writing.{three_bytes};
-ghost use Rattle.blocks.specs.Buffers.{buffer, inserted, appended, exchanged};
 
-use bytes::reverse;
+ghost use Rattle.std.specs.Prelude.{[], ◌∷◌, ◌≡◌, ◌≤◌, ◌%◌, length};
+ghost use Rattle.tsparql.specs.Writing.{three_bytes};
+ghost use Rattle.blocks.specs.Buffers.{buffer, inserted, appended, reversed, exchanged};
 
 // The byte v at a place, and what stands from there to the end one place on; nothing where there is no room.
 fn insert(out: &mut [u8], at: usize, end: usize, v: u8) -> usize
@@ -48,6 +47,14 @@ pub fn append3(out: &mut [u8], end: usize, x: u32) -> usize
     let n = append(out, end, (x / 65536 % 32) as u8);
     let m = append(out, n, (x / 256 % 256) as u8);
     append(out, m, (x % 256) as u8)
+}
+
+// The bytes from one place up to another, the last one first.
+fn reverse(out: &mut [u8], from: usize, to: usize)
+    requires { (from ≤ to) × (to ≤ length out.old) }
+    ensures { out.new ≡ reversed out.old from to }
+{
+    out[from..to].reverse();
 }
 
 // The last two blocks, from `at` to `mid` and on to the end, change places: each is reversed, and then the whole.
