@@ -1,5 +1,6 @@
 // What a text has at a place: white space, fixed tokens, numbers.
 #![tactic(auto)]
+
 ghost use Rattle.std.specs.Prelude.{◌≡◌, ◌≤◌, ◌<◌, length, drop, get_or};
 ghost use Rattle.grammar.specs.Tokens.{is_capital};
 ghost use Rattle.scanner.specs.Scans.{skip_from, common, number_from, numeral_from};
@@ -64,6 +65,7 @@ fn compare(text: &[u8], word: &[u8]) -> Literal
 }
 
 // BOUND, TRUST and AS, and the tokens of one byte.
+#[tactic(auto, unfolding(tsparql::specs::Strikes::ascii))]
 fn short_keyword(text: &[u8], first: u8) -> Literal
     requires { (0 < length text.now) × (get_or text.now 0 0 ≡ first) }
     ensures { result ≡ compared (short_keyword first) text.now }
@@ -77,6 +79,7 @@ fn short_keyword(text: &[u8], first: u8) -> Literal
 }
 
 // The other keywords besides.
+#[tactic(auto, unfolding(tsparql::specs::Strikes::ascii))]
 fn keyword(text: &[u8], first: u8) -> Literal
     requires { (0 < length text.now) × (get_or text.now 0 0 ≡ first) }
     ensures { result ≡ compared (keyword_of first) text.now }
@@ -91,6 +94,7 @@ fn keyword(text: &[u8], first: u8) -> Literal
 }
 
 // The same of the fixed token with this first byte.
+#[tactic(auto, unfolding(tsparql::specs::Strikes::ascii))]
 pub fn fixed_token(text: &[u8], first: u8) -> Literal
     requires { (0 < length text.now) × (get_or text.now 0 0 ≡ first) }
     ensures { result ≡ compared (fixed_token first) text.now }
