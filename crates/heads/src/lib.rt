@@ -2,6 +2,7 @@
 // of the query from there on, and answers the head with the place behind the head's own bytes, or where the fault is, both counted from
 // the part's start.
 #![tactic(auto)]
+
 ghost use Rattle.std.specs.Prelude.{◌≡◌};
 ghost use Rattle.heads.specs.Answers.{condition_found, node_found, fault_in};
 ghost use Rattle.heads.specs.Parts.{second_of, term_of, pair_head, term_head, connective, condition_head_read, condition_operands};
@@ -121,6 +122,7 @@ fn connective_head(kind: u8, n: u8) -> ConditionRead
 }
 
 // The head of the condition that a part starts with, and the place behind the head's own bytes.
+#[tactic(auto, unfolding(crate::specs::Parts::condition_head_read))]
 pub fn read_condition_head(q: &[u8]) -> ConditionRead
     ensures { condition_found result ≡ condition_head_read q.now }
 {
@@ -204,6 +206,7 @@ fn plain_head(kind: u8, n: u8) -> NodeRead
 }
 
 // The head of the node that a part starts with, and the place behind the head's own bytes.
+#[tactic(auto, unfolding(crate::specs::Parts::node_head_read))]
 pub fn read_head(q: &[u8]) -> NodeRead
     ensures { node_found result ≡ node_head_read q.now }
 {
