@@ -1,5 +1,6 @@
 // Query bytes of a condition from the words of its tokens.
 #![tactic(auto)]
+
 ghost use Rattle.std.specs.Prelude.{◌+◌, ◌≤◌, ◌<◌, length};
 ghost use Rattle.clauses.specs.Clauses.{Operand, Conditions, Connects};
 

@@ -1,0 +1,14 @@
+-- The measure is the words left, and the loop's invariant `Conditioning`. Assumes nothing.
+use Prim.Native.Nat.{◌-◌}
+use lib.ListN.{length}
+use Rattle.clauses.proofs.ConditionLaws.{Conditioning}
+use Rattle.clauses.proofs.+condition.Given as goal
+
+abbrev pub decreases-condition : goal.decreases-condition
+decreases-condition l = length l.t.now - l.at
+
+abbrev pub invariant-loop-s : goal.invariant-loop-s
+invariant-loop-s l = Conditioning l.t l.at l.from l.initial.out l.out l.s
+
+abbrev pub decreases-loop-s : goal.decreases-loop-s
+decreases-loop-s l = length l.t - l.s.next
