@@ -1,6 +1,7 @@
 // Readers of a query: conditions and nodes with their operands. A reader is given the part of the query from there on, and
 // answers what it read with the next place, or where the fault is, both counted from the part's start.
 #![tactic(auto)]
+
 ghost use Rattle.std.specs.Prelude.{◌≡◌, ◌≤◌, length};
 ghost use Rattle.tsparql.specs.Reading.{read_condition, read_node};
 ghost use Rattle.heads.specs.Answers.{condition_found, node_found, fault_in, pattern_count};
