@@ -1,7 +1,7 @@
 -- Fixed tokens: how much of one stands at a place (`word-says`), and what the automaton makes of it where the symbol on top allows one with
 -- that first byte (`fixed-says`). Assumes nothing.
 use mathlib.Core.Path.{◌≡◌, refl, sym, ap, ◌∙◌, subst⁻¹}
-use mathlib.Core.Bool.{Bool, true, false, true≢false, ◌&&◌}
+use mathlib.Core.Bool.{Bool, false, true≢false, ◌&&◌}
 use mathlib.Core.List.{List, ◌∷◌, Memᴰ}
 use mathlib.Core.Option.{Option}
 use Prim.Native.Nat.{ℕ, suc, ◌+◌, ◌-◌, ◌≤◌, ◌<◌}

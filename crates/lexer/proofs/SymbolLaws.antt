@@ -79,6 +79,7 @@ terms-few = few terms refl
 
 -- functions with the same values at a list
 map_at : {A B : Type 0} (f g : A → B) (xs : List A) {x : A} → map f xs ≡ map g xs → Memᴰ x xs → f x ≡ g x
+map_at f g [] h m = elim m [ ]
 map_at f g (y ∷ ys) h (Memᴰ.head q) = ap f q ∙ (cc) ∙ sym (ap g q)
 map_at f g (y ∷ ys) h (Memᴰ.tail m) = map_at f g ys (cc) m
 

@@ -1,5 +1,6 @@
 // The tokens of a query text, or the place of its fault: the automaton's stack is an array of bytes, and each turn reads one token.
 #![tactic(auto)]
+
 ghost use Rattle.std.specs.Prelude.{false, ◌&&◌, ◌≡◌, ◌+◌, ◌*◌, ◌≤◌, ◌<◌, length};
 ghost use Rattle.grammar.specs.Tokens.{is_capital};
 ghost use Rattle.lexer.specs.Symbols.{Gives};

@@ -1,0 +1,14 @@
+-- A fixed token, whole, or the place where it differs. Assumes nothing.
+use native.Mathlib.Omega.{arith}
+use Rattle.lexer.proofs.FixedLaws.{whole-inside, part-inside}
+use Rattle.lexer.proofs.spelled.Goals as goal
+
+pub overflow_add-result : goal.overflow_add-result
+overflow_add-result c =
+    let a = c.args in
+    omega (arith, whole-inside a.s.now a.at c.fixed_token-k.result c.requires c.fixed_token-k.ensures _ c.in-Whole.is)
+
+pub overflow_add-result-in-Part : goal.overflow_add-result-in-Part
+overflow_add-result-in-Part c =
+    let a = c.args in
+    omega (arith, part-inside a.s.now a.at c.fixed_token-k.result c.requires c.fixed_token-k.ensures _ c.in-Part.is)
