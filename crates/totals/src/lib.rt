@@ -1,6 +1,7 @@
 // The groups of the rows of a row space by their cell of a variable, as entries in a lent output. The rows are numbered by their cells
 // first, so that the length is known before anything is written; then each joins the entry of its number.
 #![tactic(auto)]
+
 ghost use Rattle.std.specs.Prelude.{◌≡◌, ◌+◌, ◌*◌, ◌≤◌, ◌<◌, cond, eqb, length, replicate};
 ghost use Rattle.tsparql.specs.Totals.{totals_words};
 ghost use Rattle.rows.specs.RowWords.{rows_in, word_of, RowsHeld};
