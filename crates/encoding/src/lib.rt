@@ -1,6 +1,7 @@
 // The writer of a node's head, at the front of a lent output. It answers how many bytes it wrote: none of a value out of range, nor where
 // they do not fit. What stands behind them is unchanged.
 #![tactic(auto)]
+
 ghost use Rattle.std.specs.Prelude.{◌≡◌, ◌+◌, ◌≤◌, ◌<◌, length};
 ghost use Rattle.std.proofs.lemmas.List.Edits.{sets};
 ghost use Rattle.tsparql.specs.Writing.{three_bytes};
