@@ -1,5 +1,6 @@
 // The passes over a group's items: its projections, its bounds and its filters around what is joined in it.
 #![tactic(auto)]
+
 ghost use Rattle.std.specs.Prelude.{◌∷◌, ◌≡◌, ◌≤◌, ◌<◌, length};
 ghost use Rattle.tsparql.specs.Query.{Node};
 ghost use Rattle.tsparql.specs.Writing.{node_bytes, three_bytes};
