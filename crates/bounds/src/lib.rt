@@ -1,5 +1,6 @@
 // Bounds on trust as a push carries them down: those of a node's operands, and what becomes of what stands before its operands.
 #![tactic(auto)]
+
 ghost use Rattle.std.specs.Prelude.{◌≡◌, ◌≤◌, max, min};
 ghost use Rattle.tsparql.specs.Push as Push;
 ghost use Rattle.bounds.specs.Bounds.{bound_in, is_bound, is_below, first_bound, second_bound, wrapped, stays, own_size};
