@@ -2,6 +2,7 @@
 // specs/Writing.antt: of bytes that do not fit the first are written, and the rest of the buffer is unchanged. Which bytes they are is
 // said by tsparql's Strikes.
 #![tactic(auto)]
+
 ghost use Rattle.std.specs.Prelude.{[], ◌∷◌, ◌*◌, ◌≤◌, ◌<◌, length};
 ghost use Rattle.tsparql.specs.Lists.{concat_map};
 ghost use Rattle.tsparql.specs.Check.{refuse};
