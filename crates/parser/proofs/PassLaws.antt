@@ -13,7 +13,7 @@ use Rattle.grammar.specs.Meaning.{Item, joined, gathered}
 use Rattle.words.specs.Words.{words}
 use Rattle.words.proofs.Balance.{slot-large, behind-condition}
 use Rattle.groups.specs.Items.{Follows, Items, next_place}
-use Rattle.groups.proofs.Fronts.{Kind, View, left, items-walks, first_word, view-at, next_item}
+use Rattle.groups.proofs.Fronts.{Kind, View, items-walks, first_word, view-at, next_item}
 use Rattle.groups.proofs.StepLaws.{next-forward, next_place_lem}
 use Rattle.groups.proofs.Fronts.{at_end, at_dot, at_union, at_triple, at_group, at_optional, at_filter, at_projection, at_bound}
 use Rattle.parser.specs.Stages.{body_place, Triples, Passes}

@@ -2,6 +2,7 @@
 // left-joined. A node is a block of a buffer: what is joined so far stands behind `from` bytes, and each operand is written behind it.
 // Groups: nodes that stand last; triples; a group.
 #![tactic(auto)]
+
 ghost use Rattle.std.specs.Prelude.{◌||◌, ◌≡◌, ◌≤◌, ◌<◌, eqb, leb, length, get_or, set};
 ghost use Rattle.blocks.specs.Buffers.{buffer, appended};
 ghost use Rattle.words.specs.Links.{Linked};
