@@ -221,3 +221,6 @@ linked-within t ends at h l = subst⁻¹ (λ (n : ℕ). n ≤ length t) (l.links
 pub closing-none : (t : List ℕ) (at : ℕ) → length t < at → at ≡ closing t at
 unfolding closing
 closing-none t at h = omega (arith, length-drop at t)
+
+-- what `behind` cites
+pub ruleset places = (linked-within, closing-none)

@@ -97,6 +97,7 @@ pub fn link(t: &[u32], ends: &mut [u16])
 }
 
 // The place behind the bracket that is open at a place, up to the end of the words.
+#[tactic(auto, using(crate::proofs::LinkLaws::places))]
 pub fn behind(t: &[u32], at: usize, ends: &[u16]) -> usize
     requires { Linked t.now ends.now }
     ensures { result ≡ closing t.now at }
