@@ -22,26 +22,23 @@ finish() {
     exit 0
 }
 
-# prove COMMAND CRATE: rt with this command, which proves a crate and all that it needs first, counted.
+# prove COMMAND CRATE: rt with this command in the crate's folder, which proves and builds all that the crate needs first.
 prove() {
-    local count
     command -v rt >/dev/null || {
         say "the Rattle kit's command rt is not in PATH: see README.md, \"Run it\", and docs/DECISIONS.md, \"Toolchain\""
         return 1
     }
-    count=$(awk -F': *' -v names="$2" '{ needs[$1] = $2 }
-        END {
-            queued = split(names, queue, " ")
-            for (i = 1; i <= queued; i++) {
-                if (!(queue[i] in needs) || queue[i] in seen) continue
-                seen[queue[i]]
-                found++
-                added = split(needs[queue[i]], more, " ")
-                for (j = 1; j <= added; j++) queue[++queued] = more[j]
-            }
-            print found
-        }' crates.txt)
-    rt "$1" "$2" 2>&1 | scripts/progress "$count"
+    (cd "crates/$2" && "rt_$1") </dev/null | scripts/progress
+}
+
+# rt_lib, rt_run: rt lib; rt run, which also runs the program there: what that prints, alone on standard output, is let go.
+rt_lib() { rt lib 2>&1; }
+rt_run() { rt run 2>&1 >/dev/null; }
+
+# put FILE COPY: the copy gets its name when it is complete, since another run may use the one that is there.
+put() {
+    mkdir -p "$(dirname "$2")"
+    cp "$1" "$2.$$" && mv -f "$2.$$" "$2"
 }
 
 # Builds the archive and sets `archive` to its path.
@@ -52,7 +49,7 @@ build_archive() {
     else
         archive=target/staticlib/librandwyler.a
         say "building $archive"
-        prove staticlib randwyler || return 1
+        prove lib randwyler_c && put crates/randwyler_c/out/librandwyler_c.a "$archive" || return 1
     fi
     [ -f "$archive" ] || { say "there is no archive $archive"; return 1; }
 }
@@ -70,7 +67,7 @@ build_strikes() {
     else
         strikes=target/bin/strikes
         say "building $strikes"
-        prove check strikes || return 1
+        prove run strikes && put crates/strikes/out/strikes "$strikes" || return 1
     fi
     [ -f "$strikes" ] && [ -x "$strikes" ] || { say "there is no program $strikes"; return 1; }
 }

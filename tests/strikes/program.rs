@@ -6,7 +6,7 @@ use std::fs;
 use std::path::PathBuf;
 use std::process::{self, Command, Stdio};
 
-/// Where `rt check strikes` leaves it. `RANDWYLER_STRIKES` names another program to test in its place.
+/// Where `scripts/build strikes` leaves it. `RANDWYLER_STRIKES` names another program to test in its place.
 const BUILT: &str = "target/bin/strikes";
 /// Bytes of a text that are shown where it is wrong.
 const SHOWN: usize = 300;
