@@ -24,11 +24,24 @@ finish() {
 
 # prove COMMAND CRATE: rt with this command in the crate's folder, which proves and builds all that the crate needs first.
 prove() {
+    local count
     command -v rt >/dev/null || {
         say "the Rattle kit's command rt is not in PATH: see README.md, \"Run it\", and docs/DECISIONS.md, \"Toolchain\""
         return 1
     }
-    (cd "crates/$2" && "rt_$1") </dev/null | scripts/progress
+    count=$(awk -F': *' -v names="$2" '{ split($1, words, " "); needs[words[1]] = $2 }
+        END {
+            queued = split(names, queue, " ")
+            for (i = 1; i <= queued; i++) {
+                if (!(queue[i] in needs) || queue[i] in seen) continue
+                seen[queue[i]]
+                found++
+                added = split(needs[queue[i]], more, " ")
+                for (j = 1; j <= added; j++) queue[++queued] = more[j]
+            }
+            print found
+        }' crates.txt)
+    (cd "crates/$2" && "rt_$1") </dev/null | scripts/progress "$count"
 }
 
 # rt_lib, rt_run: rt lib; rt run, which also runs the program there: what that prints, alone on standard output, is let go.
