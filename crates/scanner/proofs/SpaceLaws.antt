@@ -31,6 +31,13 @@ module _ (s : List ℕ) (at i : ℕ) (k : Skipping s at i) where
   unfolding skip_from
   skipping-one h b e p = record { inside = omega arith; same = k.same ∙ rw (ahead s i h, e, p, add-one i) }
 
+  -- a space, a line feed
+  pub skipping_space : i < length s → get_or s i 0 ≡ 32 → Skipping s at (i + 1)
+  skipping_space h e = skipping-one h 32 e refl
+
+  pub skipping_feed : i < length s → get_or s i 0 ≡ 10 → Skipping s at (i + 1)
+  skipping_feed h e = skipping-one h 10 e refl
+
   pub skipping-stop : i < length s → (get_or s i 0 ≡ 32 → ⊥) → (get_or s i 0 ≡ 10 → ⊥) → i ≡ skip_from at (drop at s)
   unfolding skip_from
   skipping-stop h e f = sym (k.same ∙ rw (ahead s i h, ne_eqb (get_or s i 0) 32 e, ne_eqb (get_or s i 0) 10 f))
@@ -38,6 +45,8 @@ module _ (s : List ℕ) (at i : ℕ) (k : Skipping s at i) where
   pub skipping-end : length s ≤ i → i ≡ skip_from at (drop at s)
   unfolding skip_from
   skipping-end h = sym (k.same ∙ rw (drop_of_length-le s h))
+
+pub ruleset skipping = (skipping_space, skipping_feed, skipping-stop, skipping-end)
 
 -- ---- what the answer says
 

@@ -9,6 +9,7 @@ ghost use Rattle.scanner.specs.Fixed.{compared, short_keyword, keyword_of, fixed
 // ---- white space
 
 // The first place from a place on that holds none.
+#[tactic(auto, using(crate::proofs::SpaceLaws::skipping))]
 pub fn skip(s: &[u8], at: usize) -> usize
     requires { at ≤ length s.now }
     ensures { result ≡ skip_from at (drop at s.now) }
