@@ -1,11 +1,11 @@
 // A typed query: the text into words, their links, and the query's bytes from a buffer into the output.
 #![tactic(auto)]
+
 ghost use Rattle.std.specs.Prelude.{◌≡◌, ◌≤◌, length};
 ghost use Rattle.grammar.specs.ReadText.{read_text};
 ghost use Rattle.words.specs.Links.{Linked};
 ghost use Rattle.reading.specs.Answers.{read_in, Renders, Delivers, Writes, Finishes};
 
-use bytes::copy;
 use groups::filtered;
 use lexer::{Scanned, scan};
 use parser::gather;
@@ -43,8 +43,8 @@ fn deliver(buffer: &[u8], n: usize, output: &mut [u8]) -> ReadAnswer
     if buffer.len() < n {
         return ReadAnswer::Written(0);
     }
-    let k = copy(&buffer[..n], output);
-    ReadAnswer::Written(k)
+    output[..n].copy_from_slice(&buffer[..n]);
+    ReadAnswer::Written(n)
 }
 
 // The query of a text's words.
