@@ -1,6 +1,6 @@
 -- The steps of the recursion over a node's parts: what is known of the parts of its operands, and the push put together from theirs, by
 -- sizes and by bytes. Assumes nothing.
-use mathlib.Core.Path.{◌≡◌, refl, sym, ap, ◌∙◌}
+use mathlib.Core.Path.{◌≡◌, refl, sym, ap, subst, ◌∙◌}
 use mathlib.Core.List.{List, ◌++◌, append-nil}
 use Prim.Native.Nat.{ℕ, zero, suc, ◌+◌, ◌-◌, ◌*◌, ◌≤◌, ◌<◌}
 use native.Mathlib.Omega.{arith}
@@ -17,7 +17,7 @@ use Rattle.heads.specs.Parts.{node_operands}
 use Rattle.query.specs.Found.{NodeSound, node_of}
 use Rattle.query.proofs.ReadLaws.{part-drop, fault-not-got}
 use Rattle.query.proofs.Forest.{operands_in}
-use Rattle.query.proofs.Operands.{Own, TwoOperands, operands-few, no_operand, one-operand, two_operands}
+use Rattle.query.proofs.Operands.{Own, TwoOperands, operands-few, no_operand, one-operand, two_operands, second-operand}
 use Rattle.rewriting.specs.declared.Pushed.{Pushed}
 use Rattle.rewriting.specs.declared.Pushed.TheVariants as P
 use Rattle.bounds.specs.Bounds.{first_bound, second_bound, own_push, own_size}
@@ -143,3 +143,51 @@ module _ {s : List ℕ} {h : Head} {k : ℕ} (o : Own s h k) (b : TrustBound) wh
 
   pub own-taken : length (own_push h b (take k s)) ≡ own_size h b k
   own-taken = own-size h b (take k s) ∙ ap (own_size h b) (length-take-le k s o.inside)
+
+-- ---- the operands' answers
+
+-- what the first operand's size and next place are, and that its part and its push are inside the node's
+pub record FirstSized (s : List ℕ) (h : Head) (k : ℕ) (b : TrustBound) (left next : ℕ) : Type 0 where
+  pub left_is : left ≡ node_size (push (first_bound h b) (node_of (drop k s)))
+  pub next-is : next ≡ node_size (node_of (drop k s))
+  pub place : k + next ≤ length s
+  pub inside : own_size h b k + left ≤ node_size (push b (node_of s))
+  pub small : own_size h b k + left ≤ 5 * length s
+
+pub first-sized : {s : List ℕ} {h : Head} {k : ℕ} (o : Own s h k) (b d : TrustBound) (r : Pushed) (left next : ℕ)
+    → (node_operands h ≡ 0 → ⊥) → d ≡ first_bound h b
+    → (let part : List ℕ = take (length s - k) (drop k s) in
+    pushed_in r ≡ got (node_size (push d (node_of part))) (node_size (node_of part)))
+    → r ≡ P.Node left next → FirstSized s h k b left next
+first-sized {s} {h} {k} o b d r left next some same found e =
+    let a = answered-part s k (first_bound h b) d r same found e in
+    let inside = first-inside o b some in
+    record {
+      left_is = a.0;
+      next-is = a.1;
+      place = omega (arith, a.1, inside.0);
+      inside = omega (arith, a.0, inside.1);
+      small = omega (arith, a.0, inside.1, push-inside o b);
+    }
+
+-- the second operand behind the first
+pub two-behind : {s : List ℕ} {h : Head} {k : ℕ} (o : Own s h k) {b : TrustBound} {left next : ℕ} → FirstSized s h k b left next
+    → (node_operands h ≡ 0 → ⊥) → (node_operands h ≡ 1 → ⊥) → TwoOperands s k next
+two-behind {s} {h} {k} o f some more = subst (TwoOperands s k) (sym f.next-is) (second-operand o some more)
+
+-- all of the push, and the end of the node
+pub record SecondSized (s : List ℕ) (h : Head) (k : ℕ) (b : TrustBound) (left next right last : ℕ) : Type 0 where
+  pub total : own_size h b k + left + right ≡ node_size (push b (node_of s))
+  pub place : k + next + last ≡ node_size (node_of s)
+
+pub second-sized : {s : List ℕ} {h : Head} {k : ℕ} (o : Own s h k) (b d : TrustBound) (r : Pushed) {left next : ℕ} (right last : ℕ)
+    → FirstSized s h k b left next → TwoOperands s k next → d ≡ second_bound h b
+    → (let part : List ℕ = take (length s - (k + next)) (drop (k + next) s) in
+    pushed_in r ≡ got (node_size (push d (node_of part))) (node_size (node_of part)))
+    → r ≡ P.Node right last → SecondSized s h k b left next right last
+second-sized {s} {h} {k} o b d r {left} {next} right last f two same found e =
+    let a = answered-part s (k + next) (second_bound h b) d r same found e in
+    record {
+      total = omega (arith, a.0, f.left_is, size-two o b next two);
+      place = omega (arith, a.1, two.size);
+    }

@@ -1,15 +1,15 @@
 -- The push of an operand into the rest of the output: what it needs (`operand-ready`), and what stands in the whole output behind it
 -- (`push-behind`). Assumes nothing.
 use mathlib.Core.Path.{◌≡◌, refl, sym, ap, ◌∙◌}
-use mathlib.Core.List.{List, ◌++◌}
+use mathlib.Core.List.{List, ◌++◌, append_assoc}
 use Prim.Native.Nat.{ℕ, ◌+◌, ◌-◌, ◌≤◌, ◌<◌}
 use native.Mathlib.Omega.{arith}
 use borrow.Rule.Slice.PartMut.{put_mid}
-use lib.ListN.{length, take, drop, length-drop}
+use lib.ListN.{length, take, drop, length-append, length-drop}
 use Rattle.tsparql.specs.Query.{Node, pattern_set, join, left_join, union, filter, project_trust, ensure_trust}
 use Rattle.tsparql.specs.Push.{TrustBound, push, BoundFormed}
 use Rattle.tsparql.specs.Writing.{node_bytes, node_size}
-use Rattle.tsparql.specs.WellFormed.{NodeFormed}
+use Rattle.tsparql.specs.WellFormed.{Bytes, NodeFormed}
 use Rattle.tsparql.specs.Rewrite.{rewrite_limit}
 use Rattle.tsparql.proofs.PushQuery.{trust_floor-formed, meet-formed}
 use Rattle.heads.specs.declared.Head.{Head}
@@ -17,13 +17,15 @@ use Rattle.query.specs.Answers.{node_head}
 use Rattle.query.specs.Found.{NodeSound, node_of}
 use Rattle.encoding.specs.Writers.{Wrote}
 use Rattle.query.proofs.ReadLaws.{part-drop}
-use Rattle.query.proofs.Operands.{Own}
-use Rattle.encoding.proofs.WriterLaws.{wrote-behind}
+use Rattle.heads.specs.Parts.{node_operands}
+use Rattle.query.proofs.Operands.{Own, TwoOperands, first-sound}
+use Rattle.encoding.proofs.WriterLaws.{wrote-long, wrote-behind}
 use Rattle.rewriting.specs.declared.Pushed.{Pushed}
 use Rattle.rewriting.specs.declared.Pushed.TheVariants as P
-use Rattle.bounds.specs.Bounds.{first_bound, second_bound}
+use Rattle.bounds.specs.Bounds.{first_bound, second_bound, own_push, own_size}
 use Rattle.rewriting.specs.Answers.{Pushable, Pushes}
-use Rattle.rewriting.proofs.PushSteps.{got-is, part-ready, answered-part}
+use Rattle.rewriting.proofs.PushSteps.{got-is, part-ready, answered-part, own-inside, own-taken, first-inside, size-two, pushed-two}
+use Rattle.rewriting.proofs.PushSteps.{FirstSized, first-sized, second-sized}
 
 -- ---- bounds in range
 
@@ -76,3 +78,84 @@ pub pushes_all : (s : List ℕ) (b : TrustBound) (w out out' : List ℕ) (n next
     → next ≡ node_size (node_of s) → Pushes s b out out' (P.Node n next)
 pushes_all s b w out out' n next e wrote end =
     record { found = got-is (wrote.size ∙ ap length (sym e)) end; wrote = rw e (record { size = refl; bytes = wrote.bytes }) }
+
+-- ---- a node's own part
+
+-- what stands before its operands is written
+pub record OwnWritten (s : List ℕ) (h : Head) (k : ℕ) (b : TrustBound) (out out₁ : List ℕ) (own : ℕ) : Type 0 where
+  pub size : own ≡ own_size h b k
+  pub fits : length (own_push h b (take k s)) ≤ length out
+  pub long : length out₁ ≡ length out
+  pub inside : own ≤ length out₁
+
+pub own-written : {s : List ℕ} {h : Head} {k : ℕ} (o : Own s h k) (b : TrustBound) (out out₁ : List ℕ) (own : ℕ)
+    → node_size (push b (node_of s)) ≤ length out → Wrote (own_push h b (take k s)) out out₁ own → OwnWritten s h k b out out₁ own
+own-written {s} {h} {k} o b out out₁ own room w =
+    let long : length (own_push h b (take k s)) ≡ own_size h b k = own-taken o b in
+    let fits : length (own_push h b (take k s)) ≤ length out = omega (arith, long, own-inside o b) in
+    let kept : length out₁ ≡ length out = wrote-long (own_push h b (take k s)) out out₁ own w fits in
+    record { size = w.size ∙ long; fits = fits; long = kept; inside = omega (arith, w.size, kept, fits) }
+
+-- ---- the first operand
+
+-- what its part and the rest of the output are ready for
+pub first-ready : {s : List ℕ} {h : Head} {k : ℕ} (o : Own s h k) (b d : TrustBound) (out out₁ : List ℕ) (own : ℕ)
+    → Pushable s b (length out) → (node_operands h ≡ 0 → ⊥) → d ≡ first_bound h b → OwnWritten s h k b out out₁ own
+    → (length (take (length s - k) (drop k s)) < length s)
+    × Pushable (take (length s - k) (drop k s)) d (length (take (length out₁ - own) (drop own out₁)))
+first-ready {s} {h} {k} o b d out out₁ own pre some same w =
+    operand-ready s k d (first_bound h b) out₁ own (first-sound o some) o.some o.inside pre.short same
+    (operands-formed o b pre.formed).0 (omega (arith, w.long, w.size, (first-inside o b some).1, pre.fits))
+
+-- its push behind the node's own part
+pub record FirstWritten (s : List ℕ) (h : Head) (k : ℕ) (b : TrustBound) (out out₂ : List ℕ) (own left next : ℕ) : Type 0 where
+  pub sized : FirstSized s h k b left next
+  pub wrote : Wrote (own_push h b (take k s) ++ node_bytes (push (first_bound h b) (node_of (drop k s)))) out out₂ (own + left)
+  pub fits : length (own_push h b (take k s) ++ node_bytes (push (first_bound h b) (node_of (drop k s)))) ≤ length out
+  pub long : length out₂ ≡ length out
+  pub inside : own + left ≤ length out₂
+
+pub first-written : {s : List ℕ} {h : Head} {k : ℕ} (o : Own s h k) (b d : TrustBound) (out out₁ part : List ℕ) (own : ℕ) (r : Pushed)
+    (left next : ℕ) → Pushable s b (length out) → Wrote (own_push h b (take k s)) out out₁ own → (node_operands h ≡ 0 → ⊥)
+    → d ≡ first_bound h b → Pushes (take (length s - k) (drop k s)) d (take (length out₁ - own) (drop own out₁)) part r
+    → r ≡ P.Node left next → FirstWritten s h k b out (put_mid own (length out₁ - own) out₁ part) own left next
+first-written {s} {h} {k} o b d out out₁ part own r left next pre w some same pushes e =
+    let x = first-sized o b d r left next some same pushes.found e in
+    let mine = own-written o b out out₁ own pre.fits w in
+    let wrote =
+    push-behind (own_push h b (take k s)) out out₁ part own s k (first_bound h b) d r w mine.fits same pushes e in
+    let first = node_bytes (push (first_bound h b) (node_of (drop k s))) in
+    let fits : length (own_push h b (take k s) ++ first) ≤ length out =
+    omega (arith, length-append (own_push h b (take k s)) first, own-taken o b, x.inside, x.left_is, pre.fits) in
+    let long = wrote-long (own_push h b (take k s) ++ first) out (put_mid own (length out₁ - own) out₁ part) (own + left) wrote fits in
+    record { sized = x; wrote = wrote; fits = fits; long = long; inside = omega (arith, wrote.size, fits, long) }
+
+-- ---- the second operand
+
+-- what its part and the rest of the output are ready for
+pub second-ready : {s : List ℕ} {h : Head} {k : ℕ} (o : Own s h k) (b d : TrustBound) (out out₂ : List ℕ) (own left next : ℕ)
+    → Pushable s b (length out) → own ≡ own_size h b k → FirstWritten s h k b out out₂ own left next → TwoOperands s k next
+    → d ≡ second_bound h b
+    → (length (take (length s - (k + next)) (drop (k + next) s)) < length s)
+    × Pushable (take (length s - (k + next)) (drop (k + next) s)) d (length (take (length out₂ - (own + left)) (drop (own + left) out₂)))
+second-ready {s} {h} {k} o b d out out₂ own left next pre size f two same =
+    operand-ready s (k + next) d (second_bound h b) out₂ (own + left) two.right-sound (omega (arith, o.some)) f.sized.place pre.short
+    same (operands-formed o b pre.formed).1
+    (omega (arith, f.long, size, f.sized.left_is, size-two o b next two, pre.fits))
+
+-- its push behind that of the first: all of the node's
+pub second-written : {s : List ℕ} {h : Head} {k : ℕ} (o : Own s h k) (b d : TrustBound) (out out₂ part : List ℕ)
+    (own left next : ℕ) (r : Pushed) (right last : ℕ) → Bytes s → Pushable s b (length out) → FirstWritten s h k b out out₂ own left next
+    → TwoOperands s k next → d ≡ second_bound h b
+    → Pushes (take (length s - (k + next)) (drop (k + next) s)) d (take (length out₂ - (own + left)) (drop (own + left) out₂)) part r
+    → r ≡ P.Node right last
+    → Pushes s b out (put_mid (own + left) (length out₂ - (own + left)) out₂ part) (P.Node (own + left + right) (k + next + last))
+second-written {s} {h} {k} o b d out out₂ part own left next r right last bytes pre f two same pushes e =
+    let y = second-sized o b d r right last f.sized two same pushes.found e in
+    let w = own_push h b (take k s) ++ node_bytes (push (first_bound h b) (node_of (drop k s))) in
+    let wrote = push-behind w out out₂ part (own + left) s (k + next) (second_bound h b) d r f.wrote f.fits same pushes e in
+    let all =
+    pushed-two o b next two bytes pre.sound
+    ∙ sym (append_assoc (own_push h b (take k s)) (node_bytes (push (first_bound h b) (node_of (drop k s))))
+    (node_bytes (push (second_bound h b) (node_of (drop (k + next) s))))) in
+    pushes_all s b _ out _ _ _ all wrote y.place

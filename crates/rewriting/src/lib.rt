@@ -1,6 +1,7 @@
 // Rewriting: the push of a query, on bytes. What stands before a node's operands, its head with its patterns or its condition, is copied
 // from the query; ensure trust goes, and comes back where a bound wraps a node.
 #![tactic(auto)]
+
 ghost use Rattle.std.specs.Prelude.{◌≡◌, ◌+◌, ◌^◌, ◌≤◌, ◌<◌, length, take};
 ghost use Rattle.tsparql.specs.Push.{push, BoundFormed};
 ghost use Rattle.tsparql.specs.Reading.{got};
@@ -13,7 +14,6 @@ ghost use Rattle.bounds.specs.Bounds.{bound_in, wrap_bytes, own_push, own_size};
 ghost use Rattle.rewriting.specs.Answers.{pushed_in, place_in, placed_behind, Pushable, Pushes, rewritten_in, answer_of};
 
 use bounds::{Bound, first_bound, own_size, second_bound, stays_put, wraps};
-use bytes::copy;
 use encoding::write_head;
 use heads::{FAULT, Head, NodeRead, node_fault, node_operands};
 use query::read_own;
@@ -98,6 +98,15 @@ fn write_wrap(b: Bound, out: &mut [u8]) -> usize
         Bound::Nothing => 0,
         Bound::Between(l, u) => write_head(Head::EnsureTrust(l, u), out),
     }
+}
+
+// The bytes at the front of the output, and how many they are.
+fn copy(src: &[u8], out: &mut [u8]) -> usize
+    requires { length src.now ≤ length out.old }
+    ensures { Wrote src.now out.old out.new result }
+{
+    out[..src.len()].copy_from_slice(src);
+    src.len()
 }
 
 // What stands before a node's operands after the push, at the front of the output, and how many bytes that is.
