@@ -173,7 +173,7 @@ exchange-blocks l l₁ l₂ l₃ pre a b D i m e e₀ p n q r₁ r₂ r₃ =
     (omega (arith, length-append pre (reverse a), length-rev a)) (omega (arith, length-append pre (reverse a), length-rev a)) in
     let e₃ = reversed-part l₂ l₃ pre (reverse a ++ reverse b) D i e r₃
     (e₂ ∙ append_assoc pre (reverse a) (reverse b ++ D) ∙ ap (λ (x : List ℕ). pre ++ x) (sym (append_assoc (reverse a) (reverse b) D))) p
-    (omega (arith, length-append (reverse a) (reverse b), length-reverse a, length-rev b)) in
+    (omega (arith, length-append (reverse a) (reverse b), length-rev a, length-rev b)) in
     e₃ ∙ ap (λ (x : List ℕ). pre ++ (x ++ D)) (rev-rev-append a b) ∙ ap (λ (x : List ℕ). pre ++ x) (append_assoc b a D)
 
 -- the parts of such a buffer

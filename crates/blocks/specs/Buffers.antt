@@ -1,5 +1,5 @@
--- A buffer in use up to an end, after a byte or bytes came in (`inserted`, `prepended`), after bytes came behind the end (`appended`), and
--- after two neighbouring parts changed places (`exchanged`). Assumes nothing.
+-- A buffer in use up to an end, after a byte or bytes came in (`inserted`, `prepended`), after bytes came behind the end (`appended`), after
+-- a part was turned round (`reversed`), and after two neighbouring parts changed places (`exchanged`). Assumes nothing.
 use Rattle.std.specs.Prelude.{Bool, cond, ◌&&◌, List, [], ◌∷◌, ◌++◌, ℕ, ◌+◌, ◌-◌, leb, ltb, length, take, drop}
 use mathlib.Core.List.{reverse}
 
@@ -36,7 +36,7 @@ appended b (v ∷ vs) = appended (inserted b b.end v) vs
 abbrev pub slice : ℕ → ℕ → List ℕ → List ℕ
 slice i m l = drop i (take m l)
 
--- the bytes from i to m come the other way round
+-- the bytes from i to m stand the other way round
 abbrev pub reversed : List ℕ → ℕ → ℕ → List ℕ
 reversed l i m = take i l ++ (reverse (slice i m l) ++ drop m l)
 
