@@ -5,4 +5,5 @@ pub mod AnswerLaws
 pub mod OperandLaws
 pub mod ReadyLaws
 pub mod PartLaws
+pub mod NodeSteps
 pub mod WholeLaws
