@@ -1,5 +1,6 @@
 // The calls. For C they stand in randwyler_c; their names and layouts are in include/randwyler.h.
 #![tactic(auto)]
+
 ghost use Rattle.std.specs.Prelude.{◌≡◌, true, false, ◌<◌};
 ghost use Rattle.tsparql.specs.Check.{refuse, check};
 ghost use Rattle.tsparql.specs.Rewrite as Rewrite;
