@@ -1,5 +1,6 @@
 // The calls for C, which are those of the crate randwyler. Their names and layouts are in include/randwyler.h.
 #![tactic(auto)]
+
 ghost use Rattle.std.specs.Prelude.{◌≡◌};
 ghost use Rattle.tsparql.specs.Check.{check};
 ghost use Rattle.tsparql.specs.Rewrite as Rewrite;

@@ -1,5 +1,6 @@
 // The text of the program `strikes` from the bytes of its two files: the evaluation in a row space of 963 rows, and its report.
 #![tactic(auto)]
+
 ghost use Rattle.tsparql.specs.Table.{whole_table, facts_in};
 ghost use Rattle.tsparql.specs.PatternSets.{by_least, aggregate, rows_over};
 ghost use Rattle.tsparql.specs.Reading.{query_node};
