@@ -105,7 +105,9 @@ fn copy(src: &[u8], out: &mut [u8]) -> usize
     requires { length src.now ≤ length out.old }
     ensures { Wrote src.now out.old out.new result }
 {
-    out[..src.len()].copy_from_slice(src);
+    for i in 0..src.len() {
+        out[i] = src[i];
+    }
     src.len()
 }
 
