@@ -2,6 +2,7 @@
 // counts and the rows, or a refusal. An absent file is an empty one. Of a file that is too long one byte past its limit is read, which
 // is enough (strikes-fronts of report's LongFiles).
 #![tactic(auto)]
+
 ghost use Rattle.std.specs.Prelude.{◌≡◌, ◌≤◌, length, take};
 
 use report::write_strikes;
