@@ -1,11 +1,14 @@
 #!/usr/bin/env python3
-"""Spells the definitions, fields, constructors, variables and lemmas of this repository as today's Rattle does: words in snake case, a dash between two names.
+"""Spells the definitions, fields, constructors, variables and lemmas of this repository as today's Rattle does.
+
+Words stand in snake case, a dash between two names.
 
 usage: python3 tools/respell.py            at the top of the repository, once, after port.py
 
-It reads each .antt, .rt and .edit file under crates/ and turns each name in camel case, as rowSpace or length-rowSpace, into snake case. Types, facts and modules keep
-their capitals. It stops, and writes nothing, where two names would fall together in a file, or where a parameter of a function would hide a definition that its clauses
-cite. In an .edit file the text that an edit replaces is respelled too.
+It reads each .antt, .rt and .edit file under crates/ and turns each name in camel case, as rowSpace or length-rowSpace, into snake case.
+Types, facts and modules keep their capitals. A lemma that would get its definition's name takes _lem. It stops, and writes nothing, where
+two names would fall together in a file, or where a parameter of a function would hide a definition that its clauses cite. In an .edit file
+the text that an edit replaces is respelled too.
 """
 
 import os
