@@ -1,40 +1,16 @@
 -- By the answer to the checked query, and the entries of its rows. Assumes nothing.
-use mathlib.Core.Path.{◌≡◌, subst, ◌∙◌}
-use mathlib.Core.List.{List}
-use Prim.Native.Nat.{ℕ}
+use mathlib.Core.Path.{◌∙◌}
 use native.Mathlib.Omega.{arith}
 use lib.ListN.{length}
-use Rattle.tsparql.specs.Lists.{Every}
 use Rattle.tsparql.specs.Table.{facts_in}
-use Rattle.tsparql.specs.PatternSets.{rows_over}
 use Rattle.tsparql.specs.Reading.{query_node}
-use Rattle.query.specs.Found.{node_of}
-use Rattle.rows.specs.RowWords.{RowFormed}
-use Rattle.tsparql.specs.WellFormed.{Bytes}
-use Rattle.table.specs.declared.View.{View}
-use Rattle.patterns.specs.declared.Aggregation.{Aggregation}
 use Rattle.patterns.specs.Matching.{view_of}
 use Rattle.patterns.specs.Sets.{aggregation_of, aggregate_of}
-use Rattle.evaluation.specs.declared.QueryRows.{QueryRows}
-use Rattle.evaluation.specs.Evaluations.{Answers}
-use Rattle.randwyler.specs.Answers.{tally_in, Ready}
+use Rattle.randwyler.specs.Answers.{tally_in}
 use Rattle.randwyler.proofs.Evaluations.{ready-seen, ready-node}
 use Rattle.randwyler.proofs.AnsweredRows.{ready-answers, ready-formed, answered-held, answered-few}
 use Rattle.randwyler.proofs.TotalsAnswers.{totals-refused, totals-short, totals-written}
 use Rattle.randwyler.proofs.totals_checked.Goals as goal
-
--- the answer, where it is known
-answers_at : (a : Aggregation) (v : View) (t s : List ℕ) (words : ℕ) (out : List ℕ) {r u : QueryRows} → Ready (view_of v) t s → r ≡ u
-    → Answers (aggregate_of a) (facts_in (view_of v) t) (node_of s) words out r
-    → Answers (aggregate_of a) (facts_in (view_of v) t) (query_node s) words out u
-answers_at a v t s words out ready e told =
-    ready-answers (aggregation_of a) (view_of v) t s ready
-    (subst (λ (q : QueryRows). Answers (aggregate_of a) (facts_in (view_of v) t) (node_of s) words out q) e told)
-
--- the query's rows are formed
-formed_at : (a : Aggregation) (v : View) (t s : List ℕ) → Ready (view_of v) t s → Bytes t
-    → Every RowFormed (rows_over (aggregate_of a) (facts_in (view_of v) t) (query_node s))
-formed_at a v t s ready bytes = ready-formed (aggregation_of a) (view_of v) t s ready bytes
 
 pub answer-a-requires : goal.answer-a-requires
 answer-a-requires c =
@@ -45,15 +21,15 @@ answer-a-requires c =
 pub total_rows-words-requires : goal.total_rows-words-requires
 total_rows-words-requires c =
     let a = c.args in
-    let formed = formed_at a.g a.view a.table.now a.query.now c.requires.0 (λ i. omega (arith, c.type_inv.table i)) in
-    let e = answers_at a.g a.view a.table.now a.query.now (length a.space.now) c.answer-a.new.space c.requires.0 c.in-Rows.is c.answer-a.ensures in
+    let formed = ready-formed (aggregation_of a.g) (view_of a.view) a.table.now a.query.now c.requires.0 (λ i. omega (arith, c.type_inv.table i)) in
+    let e = ready-answers (aggregation_of a.g) (view_of a.view) a.table.now a.query.now c.requires.0 c.in-Rows.ensures in
     (answered-held formed e, c.requires.1, answered-few formed e)
 
 pub returns-then-output-words : goal.returns-then-output-words
 returns-then-output-words c =
     let a = c.args in
-    let formed = formed_at a.g a.view a.table.now a.query.now c.requires.0 (λ i. omega (arith, c.type_inv.table i)) in
-    let e = answers_at a.g a.view a.table.now a.query.now (length a.space.now) c.answer-a.new.space c.requires.0 c.in-Rows.is c.answer-a.ensures in
+    let formed = ready-formed (aggregation_of a.g) (view_of a.view) a.table.now a.query.now c.requires.0 (λ i. omega (arith, c.type_inv.table i)) in
+    let e = ready-answers (aggregation_of a.g) (view_of a.view) a.table.now a.query.now c.requires.0 c.in-Rows.ensures in
     c.totals_refused-then-output-words.ensures c.answer-a.new.space _
     ∙ totals-short a.variable (tally_in a.tally) a.output.now formed e
     c.total_rows-words.ensures (omega arith)
@@ -61,15 +37,16 @@ returns-then-output-words c =
 pub returns-in-Refused : goal.returns-in-Refused
 returns-in-Refused c =
     let a = c.args in
+    let e = ready-answers (aggregation_of a.g) (view_of a.view) a.table.now a.query.now c.requires.0 c.in-Refused.ensures in
     c.totals_refused.ensures c.answer-a.new.space a.output.now
-    ∙ totals-refused (aggregate_of a.g) (facts_in (view_of a.view) a.table.now) (query_node a.query.now) a.variable (length a.space.now) (tally_in a.tally)
-    c.answer-a.new.space a.output.now (answers_at a.g a.view a.table.now a.query.now (length a.space.now) c.answer-a.new.space c.requires.0 c.in-Refused.is c.answer-a.ensures)
+    ∙ totals-refused (aggregate_of a.g) (facts_in (view_of a.view) a.table.now) (query_node a.query.now) a.variable
+    (length a.space.now) (tally_in a.tally) c.answer-a.new.space a.output.now e
 
 pub returns-else-output-words : goal.returns-else-output-words
 returns-else-output-words c =
     let a = c.args in
-    let formed = formed_at a.g a.view a.table.now a.query.now c.requires.0 (λ i. omega (arith, c.type_inv.table i)) in
-    let e = answers_at a.g a.view a.table.now a.query.now (length a.space.now) c.answer-a.new.space c.requires.0 c.in-Rows.is c.answer-a.ensures in
+    let formed = ready-formed (aggregation_of a.g) (view_of a.view) a.table.now a.query.now c.requires.0 (λ i. omega (arith, c.type_inv.table i)) in
+    let e = ready-answers (aggregation_of a.g) (view_of a.view) a.table.now a.query.now c.requires.0 c.in-Rows.ensures in
     rw c.with_answered.ensures
     (totals-written a.variable (tally_in a.tally) a.output.now formed e
     c.total_rows-words.ensures (omega arith))
