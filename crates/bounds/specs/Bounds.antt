@@ -1,16 +1,15 @@
 -- The push of a node by its head: the bounds of its operands, and what stands before its operands in the end. Assumes nothing.
-use Rattle.std.specs.Prelude.{Bool, true, false, cond, List, [], ◌∷◌, ◌++◌, ℕ, ◌+◌, ◌*◌, ltb}
+use Rattle.std.specs.Prelude.{Bool, true, false, cond, List, [], ◌∷◌, ◌++◌, ℕ, ◌+◌, ◌*◌, ltb, Option, None, Some}
 use Rattle.tsparql.specs.Push.{TrustBound, no_bound, between, meet, trust_floor}
 use Rattle.tsparql.specs.Writing.{first_byte, three_bytes}
 use Rattle.heads.specs.declared.Head.{Head}
 use Rattle.heads.specs.declared.Head.TheVariants as H
-use Rattle.bounds.specs.declared.Bound.{Bound}
-use Rattle.bounds.specs.declared.Bound.TheVariants as B
+use Rattle.bounds.specs.declared.Bounds.{Bounds}
 
 -- the bound that a value stands for
-abbrev pub bound_in : Bound → TrustBound
-bound_in B.Nothing = no_bound
-bound_in (B.Between l u) = between l u
+abbrev pub bound_in : Option Bounds → TrustBound
+bound_in None = no_bound
+bound_in (Some b) = between b.least b.most
 
 -- ---- bounds
 
@@ -26,23 +25,16 @@ is_below (between l u) = ltb u 2000
 
 -- the bound of a node's first operand, where it has one
 abbrev pub first_bound : Head → TrustBound → TrustBound
-first_bound (H.PatternSet n) b = b
 first_bound H.Join b = trust_floor b
 first_bound H.LeftJoin b = trust_floor b
-first_bound H.Union b = b
-first_bound H.Filter b = b
-first_bound (H.ProjectTrust v) b = b
 first_bound (H.EnsureTrust l u) b = meet b l u
+first_bound _ b = b
 
 -- the bound of its second operand, where it has one
 abbrev pub second_bound : Head → TrustBound → TrustBound
-second_bound (H.PatternSet n) b = b
 second_bound H.Join b = trust_floor b
 second_bound H.LeftJoin b = no_bound
-second_bound H.Union b = b
-second_bound H.Filter b = b
-second_bound (H.ProjectTrust v) b = b
-second_bound (H.EnsureTrust l u) b = b
+second_bound _ b = b
 
 -- ---- what stands before the operands
 
@@ -51,20 +43,12 @@ abbrev pub wrapped : Head → TrustBound → Bool
 wrapped (H.PatternSet n) b = is_bound b
 wrapped H.Join b = is_below b
 wrapped H.LeftJoin b = is_bound b
-wrapped H.Union b = false
-wrapped H.Filter b = false
-wrapped (H.ProjectTrust v) b = false
-wrapped (H.EnsureTrust l u) b = false
+wrapped _ b = false
 
 -- ensure trust goes; every other node stays
 abbrev pub stays : Head → Bool
-stays (H.PatternSet n) = true
-stays H.Join = true
-stays H.LeftJoin = true
-stays H.Union = true
-stays H.Filter = true
-stays (H.ProjectTrust v) = true
 stays (H.EnsureTrust l u) = false
+stays _ = true
 
 -- the bytes of ensure trust with this bound; none under none
 abbrev pub wrap_bytes : TrustBound → List ℕ

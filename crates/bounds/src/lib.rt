@@ -1,112 +1,75 @@
 // Bounds on trust as a push carries them down: those of a node's operands, and what becomes of what stands before its operands.
 #![tactic(auto)]
 
-ghost use Rattle.std.specs.Prelude.{◌≡◌, ◌≤◌, max, min};
+ghost use Rattle.std.specs.Prelude.{◌≡◌, ◌≤◌};
 ghost use Rattle.tsparql.specs.Push as Push;
-ghost use Rattle.bounds.specs.Bounds.{bound_in, is_bound, is_below, first_bound, second_bound, wrapped, stays, own_size};
+ghost use Rattle.bounds.specs.Bounds.{bound_in, first_bound, second_bound, wrapped, stays, own_size};
 
 use heads::Head;
 
-// A bound on trust carried down from the root, plus 1000: none, or from l to u.
-#[derive(Clone, Copy)]
-pub enum Bound {
-    Nothing,
-    Between(u32, u32),
-}
+// The most that trust can be, plus 1000.
+const TOP: u32 = 2000;
 
-fn lesser(a: u32, b: u32) -> u32
-    ensures { result ≡ min a b }
-{
-    if a <= b { a } else { b }
-}
-
-fn greater(a: u32, b: u32) -> u32
-    ensures { result ≡ max a b }
-{
-    if a <= b { b } else { a }
+// Bounds on trust, plus 1000. A push carries one pair of them down from the root, or none.
+#[derive(Clone, Copy, Debug, PartialEq, Eq)]
+pub struct Bounds {
+    pub least: u32,
+    pub most: u32,
 }
 
 // The bound of the operand of ensure trust from m to w.
-fn meet(b: Bound, m: u32, w: u32) -> Bound
+fn meet(b: Option<Bounds>, m: u32, w: u32) -> Option<Bounds>
     ensures { bound_in result ≡ Push.meet (bound_in b) m w }
 {
     match b {
-        Bound::Nothing => Bound::Between(m, w),
-        Bound::Between(l, u) => Bound::Between(greater(l, m), lesser(u, w)),
+        None => Some(Bounds { least: m, most: w }),
+        Some(b) => Some(Bounds {
+            least: b.least.max(m),
+            most: b.most.min(w),
+        }),
     }
 }
 
 // The bound of the operands of a join: as low, and up to 1000.
-fn floor_of(b: Bound) -> Bound
+fn floor_of(b: Option<Bounds>) -> Option<Bounds>
     ensures { bound_in result ≡ Push.trust_floor (bound_in b) }
 {
-    match b {
-        Bound::Nothing => Bound::Nothing,
-        Bound::Between(l, _) => Bound::Between(l, 2000),
-    }
-}
-
-// A bound is there, and it is below 1000 at the top.
-fn is_below(b: Bound) -> bool
-    ensures { result ≡ is_below (bound_in b) }
-{
-    match b {
-        Bound::Nothing => false,
-        Bound::Between(_, u) => u < 2000,
-    }
-}
-
-fn is_bound(b: Bound) -> bool
-    ensures { result ≡ is_bound (bound_in b) }
-{
-    match b {
-        Bound::Nothing => false,
-        Bound::Between(_, _) => true,
-    }
+    b.map(|b| Bounds {
+        least: b.least,
+        most: TOP,
+    })
 }
 
 // The node is wrapped in ensure trust.
-pub fn wraps(h: Head, b: Bound) -> bool
+pub fn wraps(h: Head, b: Option<Bounds>) -> bool
     ensures { result ≡ wrapped h (bound_in b) }
 {
     match h {
-        Head::PatternSet(_) => is_bound(b),
-        Head::Join => is_below(b),
-        Head::LeftJoin => is_bound(b),
-        Head::Union => false,
-        Head::Filter => false,
-        Head::ProjectTrust(_) => false,
-        Head::EnsureTrust(_, _) => false,
+        Head::PatternSet(_) | Head::LeftJoin => b.is_some(),
+        Head::Join => b.is_some_and(|b| b.most < TOP),
+        _ => false,
     }
 }
 
 // The bound of a node's first operand, where it has one.
-pub fn first_bound(h: Head, b: Bound) -> Bound
+pub fn first_bound(h: Head, b: Option<Bounds>) -> Option<Bounds>
     ensures { bound_in result ≡ first_bound h (bound_in b) }
 {
     match h {
-        Head::PatternSet(_) => b,
-        Head::Join => floor_of(b),
-        Head::LeftJoin => floor_of(b),
-        Head::Union => b,
-        Head::Filter => b,
-        Head::ProjectTrust(_) => b,
+        Head::Join | Head::LeftJoin => floor_of(b),
         Head::EnsureTrust(l, u) => meet(b, l, u),
+        _ => b,
     }
 }
 
 // The bound of its second, where it has one.
-pub fn second_bound(h: Head, b: Bound) -> Bound
+pub fn second_bound(h: Head, b: Option<Bounds>) -> Option<Bounds>
     ensures { bound_in result ≡ second_bound h (bound_in b) }
 {
     match h {
-        Head::PatternSet(_) => b,
         Head::Join => floor_of(b),
-        Head::LeftJoin => Bound::Nothing,
-        Head::Union => b,
-        Head::Filter => b,
-        Head::ProjectTrust(_) => b,
-        Head::EnsureTrust(_, _) => b,
+        Head::LeftJoin => None,
+        _ => b,
     }
 }
 
@@ -114,25 +77,19 @@ pub fn second_bound(h: Head, b: Bound) -> Bound
 pub fn stays_put(h: Head) -> bool
     ensures { result ≡ stays h }
 {
-    match h {
-        Head::PatternSet(_) => true,
-        Head::Join => true,
-        Head::LeftJoin => true,
-        Head::Union => true,
-        Head::Filter => true,
-        Head::ProjectTrust(_) => true,
-        Head::EnsureTrust(_, _) => false,
-    }
+    !matches!(h, Head::EnsureTrust(_, _))
 }
 
 // How many bytes stand before a node's operands after the push, where k stood there.
-pub fn own_size(h: Head, b: Bound, k: usize) -> usize
+pub fn own_size(h: Head, b: Option<Bounds>, k: usize) -> usize
     requires { k ≤ 1024 }
     ensures { result ≡ own_size h (bound_in b) k }
 {
-    if stays_put(h) {
-        if wraps(h, b) { 4 + k } else { k }
-    } else {
+    if !stays_put(h) {
         0
+    } else if wraps(h, b) {
+        4 + k
+    } else {
+        k
     }
 }
