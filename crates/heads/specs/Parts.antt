@@ -1,6 +1,6 @@
 -- The head of a condition or a node, with the place behind its own bytes, and how many operands it has. That heads and operands are the
 -- definitions' readers is proved in the crate query. Places are counted from the start of the part. Assumes nothing.
-use Rattle.std.specs.Prelude.{Bool, true, false, ◌&&◌, not, cond, List, ℕ, ◌/◌, ◌%◌, eqb, leb, ltb, length, get_or}
+use Rattle.std.specs.Prelude.{Bool, true, false, ◌&&◌, cond, List, ℕ, ◌/◌, ◌%◌, eqb, leb, ltb, length, get_or}
 use Rattle.tsparql.specs.Reading.{Read, got, fault, require, kind_of, low_of, bits24, term_sound}
 use Rattle.heads.specs.declared.ConditionHead.{ConditionHead}
 use Rattle.heads.specs.declared.ConditionHead.TheVariants as C
@@ -9,21 +9,14 @@ use Rattle.heads.specs.declared.Head.TheVariants as H
 
 -- ---- conditions
 
--- the second variable, or 16 where there is none
-abbrev pub second_of : List ℕ → ℕ
-second_of s = cond (leb 2 (length s) && ltb (get_or s 1 0) 16) (get_or s 1 0) 16
-
--- the term, or 0 where there is none
-abbrev pub term_of : List ℕ → ℕ
-term_of s = cond (leb 4 (length s) && term_sound (bits24 s 1)) (bits24 s 1) 0
-
 -- same, or less, with n for the first variable
 abbrev pub pair_head : List ℕ → ℕ → Bool → Read ConditionHead
-pair_head s n is_same = require (ltb (second_of s) 16) (got (cond is_same (C.Same n (second_of s)) (C.Less n (second_of s))) 2)
+pair_head s n is_same =
+    require (leb 2 (length s) && ltb (get_or s 1 0) 16) (got (cond is_same (C.Same n (get_or s 1 0)) (C.Less n (get_or s 1 0))) 2)
 
 -- is-term, with n for its variable
 abbrev pub term_head : List ℕ → ℕ → Read ConditionHead
-term_head s n = require (not (eqb (term_of s) 0)) (got (C.IsTerm n (term_of s)) 4)
+term_head s n = require (leb 4 (length s) && term_sound (bits24 s 1)) (got (C.IsTerm n (bits24 s 1)) 4)
 
 -- not, and, or, true
 abbrev pub connective : ℕ → ℕ → Read ConditionHead

@@ -4,14 +4,12 @@
 #![tactic(auto)]
 
 ghost use Rattle.std.specs.Prelude.{◌≡◌};
-ghost use Rattle.heads.specs.Answers.{condition_found, node_found, fault_in};
-ghost use Rattle.heads.specs.Parts.{second_of, term_of, pair_head, term_head, connective, condition_head_read, condition_operands};
+ghost use Rattle.refusals.specs.Reads.{found};
+ghost use Rattle.heads.specs.Parts.{pair_head, term_head, connective, condition_head_read, condition_operands};
 ghost use Rattle.heads.specs.Parts.{bounds_head, plain_head, node_head_read, node_operands};
 
+use refusals::Fault;
 use slots::{bits_at, term_sound};
-
-// The number of the refusal of a query that has a fault.
-pub const FAULT: u32 = 6;
 
 // A condition without its operands.
 #[derive(Clone, Copy)]
@@ -26,13 +24,6 @@ pub enum ConditionHead {
     True,
 }
 
-// A condition's head and the next place, or the place of the fault.
-#[derive(Clone, Copy)]
-pub enum ConditionRead {
-    Condition(ConditionHead, usize),
-    Fault(usize),
-}
-
 // A node without its operands; the bounds of ensure trust stand plus 1000.
 #[derive(Clone, Copy)]
 pub enum Head {
@@ -45,95 +36,62 @@ pub enum Head {
     EnsureTrust(u32, u32),
 }
 
-// A node's head and the next place, or the place of the fault.
-#[derive(Clone, Copy)]
-pub enum NodeRead {
-    Node(Head, usize),
-    Fault(usize),
-}
-
 // ---- conditions
 
-// The second variable of same and less, or 16 where there is none.
-fn second_of(q: &[u8]) -> u8
-    ensures { result ≡ second_of q.now }
+// Same (true) or less, with n for its first variable.
+fn pair_head(q: &[u8], n: u8, same: bool) -> Result<(ConditionHead, usize), Fault>
+    ensures { found result ≡ pair_head q.now n same }
 {
-    if q.len() < 2 {
-        return 16;
+    if q.len() < 2 || 16 <= q[1] {
+        return Err(Fault(0));
     }
     let w = q[1];
-    if w < 16 { w } else { 16 }
-}
-
-// The term of is-term, or 0 where there is none.
-fn term_of(q: &[u8]) -> u32
-    ensures { result ≡ term_of q.now }
-{
-    if q.len() < 4 {
-        return 0;
-    }
-    let a = bits_at(q, 1);
-    if term_sound(a) { a } else { 0 }
-}
-
-// Same (true) or less, with n for its first variable.
-fn pair_head(q: &[u8], n: u8, same: bool) -> ConditionRead
-    ensures { condition_found result ≡ pair_head q.now n same }
-{
-    let w = second_of(q);
-    if w < 16 {
-        if same {
-            ConditionRead::Condition(ConditionHead::Same(n, w), 2)
-        } else {
-            ConditionRead::Condition(ConditionHead::Less(n, w), 2)
-        }
+    let head = if same {
+        ConditionHead::Same(n, w)
     } else {
-        ConditionRead::Fault(0)
-    }
+        ConditionHead::Less(n, w)
+    };
+    Ok((head, 2))
 }
 
 // Is-term, with n for its variable.
-fn term_head(q: &[u8], n: u8) -> ConditionRead
-    ensures { condition_found result ≡ term_head q.now n }
+fn term_head(q: &[u8], n: u8) -> Result<(ConditionHead, usize), Fault>
+    ensures { found result ≡ term_head q.now n }
 {
-    let a = term_of(q);
-    if a == 0 {
-        ConditionRead::Fault(0)
-    } else {
-        ConditionRead::Condition(ConditionHead::IsTerm(n, a), 4)
+    if q.len() < 4 || !term_sound(bits_at(q, 1)) {
+        return Err(Fault(0));
     }
+    Ok((ConditionHead::IsTerm(n, bits_at(q, 1)), 4))
 }
 
 // Not, and, or, true: n must be 0.
-fn connective_head(kind: u8, n: u8) -> ConditionRead
-    ensures { condition_found result ≡ connective kind n }
+fn connective_head(kind: u8, n: u8) -> Result<(ConditionHead, usize), Fault>
+    ensures { found result ≡ connective kind n }
 {
-    if n == 0 {
-        match kind {
-            4 => ConditionRead::Condition(ConditionHead::Not, 1),
-            5 => ConditionRead::Condition(ConditionHead::And, 1),
-            6 => ConditionRead::Condition(ConditionHead::Or, 1),
-            7 => ConditionRead::Condition(ConditionHead::True, 1),
-            _ => ConditionRead::Fault(0),
-        }
-    } else {
-        ConditionRead::Fault(0)
+    if n != 0 {
+        return Err(Fault(0));
+    }
+    match kind {
+        4 => Ok((ConditionHead::Not, 1)),
+        5 => Ok((ConditionHead::And, 1)),
+        6 => Ok((ConditionHead::Or, 1)),
+        7 => Ok((ConditionHead::True, 1)),
+        _ => Err(Fault(0)),
     }
 }
 
 // The head of the condition that a part starts with, and the place behind the head's own bytes.
 #[tactic(auto, unfolding(crate::specs::Parts::condition_head_read))]
-pub fn read_condition_head(q: &[u8]) -> ConditionRead
-    ensures { condition_found result ≡ condition_head_read q.now }
+pub fn read_condition_head(q: &[u8]) -> Result<(ConditionHead, usize), Fault>
+    ensures { found result ≡ condition_head_read q.now }
 {
-    if q.len() == 0 {
-        return ConditionRead::Fault(0);
+    if q.is_empty() {
+        return Err(Fault(0));
     }
-    let b = q[0];
-    let n = b % 16;
-    let kind = b / 16;
+    let n = q[0] % 16;
+    let kind = q[0] / 16;
     match kind {
-        0 => ConditionRead::Condition(ConditionHead::Bound(n), 1),
+        0 => Ok((ConditionHead::Bound(n), 1)),
         1 => pair_head(q, n, true),
         2 => term_head(q, n),
         3 => pair_head(q, n, false),
@@ -146,79 +104,60 @@ pub fn condition_operands(h: ConditionHead) -> u8
     ensures { result ≡ condition_operands h }
 {
     match h {
-        ConditionHead::Bound(_) => 0,
-        ConditionHead::Same(_, _) => 0,
-        ConditionHead::IsTerm(_, _) => 0,
-        ConditionHead::Less(_, _) => 0,
         ConditionHead::Not => 1,
-        ConditionHead::And => 2,
-        ConditionHead::Or => 2,
-        ConditionHead::True => 0,
-    }
-}
-
-// The place of a fault; 0 where there is none.
-pub fn condition_fault(r: ConditionRead) -> usize
-    ensures { result ≡ fault_in (condition_found r) }
-{
-    match r {
-        ConditionRead::Condition(_, _) => 0,
-        ConditionRead::Fault(p) => p,
+        ConditionHead::And | ConditionHead::Or => 2,
+        _ => 0,
     }
 }
 
 // ---- nodes
 
 // Ensure trust: n must be 0, and two bounds follow.
-fn bounds_head(q: &[u8], n: u8) -> NodeRead
-    ensures { node_found result ≡ bounds_head q.now n }
+fn bounds_head(q: &[u8], n: u8) -> Result<(Head, usize), Fault>
+    ensures { found result ≡ bounds_head q.now n }
 {
-    if n == 0 {
-        if 4 <= q.len() {
-            let b = bits_at(q, 1);
-            let l = b / 4096;
-            let u = b % 4096;
-            if l <= 2000 {
-                if u <= 2000 {
-                    return NodeRead::Node(Head::EnsureTrust(l, u), 4);
-                }
-            }
-        }
+    if n != 0 || q.len() < 4 {
+        return Err(Fault(0));
     }
-    NodeRead::Fault(0)
+    let bounds = bits_at(q, 1);
+    let least = bounds / 4096;
+    let most = bounds % 4096;
+    if least <= 2000 && most <= 2000 {
+        Ok((Head::EnsureTrust(least, most), 4))
+    } else {
+        Err(Fault(0))
+    }
 }
 
 // Join, left join, union, filter: n must be 0.
-fn plain_head(kind: u8, n: u8) -> NodeRead
-    ensures { node_found result ≡ plain_head kind n }
+fn plain_head(kind: u8, n: u8) -> Result<(Head, usize), Fault>
+    ensures { found result ≡ plain_head kind n }
 {
-    if n == 0 {
-        match kind {
-            1 => NodeRead::Node(Head::Join, 1),
-            2 => NodeRead::Node(Head::LeftJoin, 1),
-            3 => NodeRead::Node(Head::Union, 1),
-            4 => NodeRead::Node(Head::Filter, 1),
-            _ => NodeRead::Fault(0),
-        }
-    } else {
-        NodeRead::Fault(0)
+    if n != 0 {
+        return Err(Fault(0));
+    }
+    match kind {
+        1 => Ok((Head::Join, 1)),
+        2 => Ok((Head::LeftJoin, 1)),
+        3 => Ok((Head::Union, 1)),
+        4 => Ok((Head::Filter, 1)),
+        _ => Err(Fault(0)),
     }
 }
 
 // The head of the node that a part starts with, and the place behind the head's own bytes.
 #[tactic(auto, unfolding(crate::specs::Parts::node_head_read))]
-pub fn read_head(q: &[u8]) -> NodeRead
-    ensures { node_found result ≡ node_head_read q.now }
+pub fn read_head(q: &[u8]) -> Result<(Head, usize), Fault>
+    ensures { found result ≡ node_head_read q.now }
 {
-    if q.len() == 0 {
-        return NodeRead::Fault(0);
+    if q.is_empty() {
+        return Err(Fault(0));
     }
-    let b = q[0];
-    let n = b % 16;
-    let kind = b / 16;
+    let n = q[0] % 16;
+    let kind = q[0] / 16;
     match kind {
-        0 => NodeRead::Node(Head::PatternSet(n), 1),
-        5 => NodeRead::Node(Head::ProjectTrust(n), 1),
+        0 => Ok((Head::PatternSet(n), 1)),
+        5 => Ok((Head::ProjectTrust(n), 1)),
         6 => bounds_head(q, n),
         _ => plain_head(kind, n),
     }
@@ -230,21 +169,7 @@ pub fn node_operands(h: Head) -> u8
 {
     match h {
         Head::PatternSet(_) => 0,
-        Head::Join => 2,
-        Head::LeftJoin => 2,
-        Head::Union => 2,
-        Head::Filter => 1,
-        Head::ProjectTrust(_) => 1,
-        Head::EnsureTrust(_, _) => 1,
-    }
-}
-
-// The place of a fault; 0 where there is none.
-pub fn node_fault(r: NodeRead) -> usize
-    ensures { result ≡ fault_in (node_found r) }
-{
-    match r {
-        NodeRead::Node(_, _) => 0,
-        NodeRead::Fault(p) => p,
+        Head::Join | Head::LeftJoin | Head::Union => 2,
+        Head::Filter | Head::ProjectTrust(_) | Head::EnsureTrust(_, _) => 1,
     }
 }

@@ -1,23 +1,23 @@
 -- The definitions' reader of a condition is the head, and then its operands (`condition-parts`); no place is behind the end.
 -- Assumes nothing.
 use mathlib.Core.Path.{◌≡◌, refl, ap, ◌∙◌}
-use mathlib.Core.Bool.{Bool, true, false, ◌&&◌, not, cond, false≢true}
+use mathlib.Core.Bool.{Bool, true, false, ◌&&◌, cond}
 use mathlib.Core.List.{List}
 use Prim.Native.Nat.{ℕ, ◌+◌, ◌-◌, ◌≤◌, zero-le}
 use native.Mathlib.Omega.{arith}
-use borrow.Author.Tests.{ne_eqb, eqb-false, leb-true, ltb-true}
+use borrow.Author.Tests.{eqb-false, leb-true}
 use lib.Dec.{eqb, leb, ltb}
 use lib.ListN.{length, get_or, drop}
 use Rattle.tsparql.specs.Query.{Condition, same, less, is_term, negation, conjunction, disjunction, always}
 use Rattle.tsparql.specs.Reading.{Read, got, fault, and_then, require, kind_of, low_of, bits24, term_sound, condition_step, read_condition}
-use Rattle.tsparql.proofs.ListLaws.{and_right, and_left}
+use Rattle.tsparql.proofs.ListLaws.{and_left}
 use Rattle.tsparql.proofs.ReaderSteps.{read_condition-step}
 use Rattle.tsparql.proofs.WrittenRead.{read_condition-sound}
 use Rattle.tsparql.specs.WellFormed.{ConditionFormed}
 use Rattle.tsparql.specs.Writing.{condition_bytes}
 use Rattle.heads.specs.declared.ConditionHead.{ConditionHead}
 use Rattle.heads.specs.declared.ConditionHead.TheVariants as C
-use Rattle.heads.specs.Parts.{second_of, term_of, pair_head, term_head, connective, condition_head_read, condition_operands}
+use Rattle.heads.specs.Parts.{pair_head, term_head, connective, condition_head_read, condition_operands}
 use Rattle.query.specs.Answers.{condition_head}
 use Rattle.query.specs.Parts.{map_read, follow, conditions_from}
 use Rattle.query.proofs.ReadLaws.{place_of, by_kind, no_kind, cond_cases, require-cases, one-part, two-parts}
@@ -39,29 +39,24 @@ pair_parts : (s : List ℕ) (n : ℕ) (is_same : Bool) (f : ℕ → ℕ → Cond
     → map_read condition_head (require (leb 2 (length s) && ltb (get_or s 1 0) 16) (got (f n (get_or s 1 0)) 2))
     ≡ follow (pair_head s n is_same) (operands_of s)
 unfolding conditions_from
-pair_parts s n is_same f h z = go (leb 2 (length s) && ltb (get_or s 1 0) 16) refl
+pair_parts s n is_same f h z = go (leb 2 (length s) && ltb (get_or s 1 0) 16)
   where
-    go : (b : Bool) → leb 2 (length s) && ltb (get_or s 1 0) 16 ≡ b
+    go : (b : Bool)
         → map_read condition_head (require b (got (f n (get_or s 1 0)) 2))
-        ≡ follow (require (ltb (cond b (get_or s 1 0) 16) 16)
-        (got (cond is_same (C.Same n (cond b (get_or s 1 0) 16)) (C.Less n (cond b (get_or s 1 0) 16))) 2)) (operands_of s)
-    go true e = rw (and_right (leb 2 (length s)) (ltb (get_or s 1 0) 16) e, z n (get_or s 1 0), h n (get_or s 1 0))
-    go false e = refl
-
-term-positive : (x : ℕ) → term_sound x ≡ true → eqb x 0 ≡ false
-term-positive x e = ne_eqb x 0 (λ z. omega (arith, ltb-true 0 x (and_left (ltb 0 x) (ltb x 1048576) e)))
+        ≡ follow (require b (got (cond is_same (C.Same n (get_or s 1 0)) (C.Less n (get_or s 1 0))) 2)) (operands_of s)
+    go true = rw (z n (get_or s 1 0), h n (get_or s 1 0))
+    go false = refl
 
 term-parts : (s : List ℕ) (n : ℕ)
     → map_read condition_head (require (leb 4 (length s) && term_sound (bits24 s 1)) (got (is_term n (bits24 s 1)) 4))
     ≡ follow (term_head s n) (operands_of s)
 unfolding conditions_from
-term-parts s n = go (leb 4 (length s) && term_sound (bits24 s 1)) refl
+term-parts s n = go (leb 4 (length s) && term_sound (bits24 s 1))
   where
-    go : (b : Bool) → leb 4 (length s) && term_sound (bits24 s 1) ≡ b
-        → map_read condition_head (require b (got (is_term n (bits24 s 1)) 4))
-        ≡ follow (require (not (eqb (cond b (bits24 s 1) 0) 0)) (got (C.IsTerm n (cond b (bits24 s 1) 0)) 4)) (operands_of s)
-    go true e = rw (term-positive (bits24 s 1) (and_right (leb 4 (length s)) (term_sound (bits24 s 1)) e))
-    go false e = refl
+    go : (b : Bool)
+        → map_read condition_head (require b (got (is_term n (bits24 s 1)) 4)) ≡ follow (require b (got (C.IsTerm n (bits24 s 1)) 4)) (operands_of s)
+    go true = refl
+    go false = refl
 
 -- ---- operands
 
@@ -137,28 +132,17 @@ HeadInside n (fault p) = Unit {0}
 
 pair_inside : (s : List ℕ) (n : ℕ) (is_same : Bool) → HeadInside (length s) (pair_head s n is_same)
 pair_inside s n is_same =
-    require-cases (HeadInside (length s)) (ltb (second_of s) 16) _ tt λ e. (omega arith, long e, few is_same)
+    require-cases (HeadInside (length s)) (leb 2 (length s) && ltb (get_or s 1 0) 16) _ tt λ e.
+    (omega arith, leb-true 2 (length s) (and_left (leb 2 (length s)) (ltb (get_or s 1 0) 16) e), few is_same)
   where
-    few : (b : Bool) → condition_operands (cond b (C.Same n (second_of s)) (C.Less n (second_of s))) ≤ 2
+    few : (b : Bool) → condition_operands (cond b (C.Same n (get_or s 1 0)) (C.Less n (get_or s 1 0))) ≤ 2
     few true = zero-le
     few false = zero-le
 
-    long : ltb (second_of s) 16 ≡ true → 2 ≤ length s
-    long e = go (leb 2 (length s) && ltb (get_or s 1 0) 16) refl e
-      where
-        go : (b : Bool) → leb 2 (length s) && ltb (get_or s 1 0) 16 ≡ b → ltb (cond b (get_or s 1 0) 16) 16 ≡ true → 2 ≤ length s
-        go true d f = leb-true 2 (length s) (and_left (leb 2 (length s)) (ltb (get_or s 1 0) 16) d)
-        go false d f = absurd (false≢true f)
-
 term-inside : (s : List ℕ) (n : ℕ) → HeadInside (length s) (term_head s n)
-term-inside s n = require-cases (HeadInside (length s)) (not (eqb (term_of s) 0)) _ tt λ e. (omega arith, long e, zero-le)
-  where
-    long : not (eqb (term_of s) 0) ≡ true → 4 ≤ length s
-    long e = go (leb 4 (length s) && term_sound (bits24 s 1)) refl e
-      where
-        go : (b : Bool) → leb 4 (length s) && term_sound (bits24 s 1) ≡ b → not (eqb (cond b (bits24 s 1) 0) 0) ≡ true → 4 ≤ length s
-        go true d f = leb-true 4 (length s) (and_left (leb 4 (length s)) (term_sound (bits24 s 1)) d)
-        go false d f = absurd (false≢true f)
+term-inside s n =
+    require-cases (HeadInside (length s)) (leb 4 (length s) && term_sound (bits24 s 1)) _ tt λ e.
+    (omega arith, leb-true 4 (length s) (and_left (leb 4 (length s)) (term_sound (bits24 s 1)) e), zero-le)
 
 connective-inside : (n kind low : ℕ) → 1 ≤ n → HeadInside n (connective kind low)
 connective-inside n kind low h =

@@ -1,5 +1,5 @@
 -- The answers of the readers of whole conditions and nodes, in the definitions' terms: for a tree the head that a reader answers for it;
--- a place; the refusal of a fault. Assumes nothing.
+-- and the refusal of a fault. Assumes nothing.
 use Rattle.std.specs.Prelude.{length}
 use Rattle.tsparql.specs.Query.{Condition, bound, same, is_term, less, negation, conjunction, disjunction, always}
 use Rattle.tsparql.specs.Query.{Node, pattern_set, join, left_join, union, filter, project_trust, ensure_trust}
@@ -9,8 +9,6 @@ use Rattle.heads.specs.declared.ConditionHead.{ConditionHead}
 use Rattle.heads.specs.declared.ConditionHead.TheVariants as C
 use Rattle.heads.specs.declared.Head.{Head}
 use Rattle.heads.specs.declared.Head.TheVariants as H
-use Rattle.query.specs.declared.Place.{Place}
-use Rattle.query.specs.declared.Place.TheVariants as L
 
 -- a condition without its operands
 abbrev pub condition_head : Condition → ConditionHead
@@ -32,11 +30,6 @@ node_head (union x y) = H.Union
 node_head (filter c x) = H.Filter
 node_head (project_trust v x) = H.ProjectTrust v
 node_head (ensure_trust l u x) = H.EnsureTrust l u
-
--- a place alone
-abbrev pub place_found : Place → Read (Unit {0})
-place_found (L.At n) = got tt n
-place_found (L.Fault p) = fault p
 
 -- 6 at the place of a fault
 abbrev pub fault_refusal : {A : Type 0} → Read A → Refusal

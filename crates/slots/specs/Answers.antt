@@ -1,10 +1,9 @@
 -- The answers of the readers of patterns, in the definitions' terms. Assumes nothing.
-use Rattle.std.specs.Prelude.{Bool, ◌&&◌, List, ℕ}
+use Rattle.std.specs.Prelude.{Bool, ◌&&◌, List, ℕ, Result, Ok, Err}
 use Rattle.tsparql.specs.Query as Query
 use Rattle.tsparql.specs.Reading.{Read, got, fault, bits24, slot_sound, slot_of}
 use Rattle.slots.specs.declared.Pattern.{Pattern}
-use Rattle.slots.specs.declared.PatternRead.{PatternRead}
-use Rattle.slots.specs.declared.PatternRead.TheVariants as P
+use Rattle.refusals.specs.declared.Fault.{Fault}
 
 -- a pattern by its slots' numbers
 abbrev pub pattern_in : Pattern → Query.Pattern
@@ -19,6 +18,6 @@ abbrev pub slots_sound : Pattern → Bool
 slots_sound p = slot_sound p.subject && slot_sound p.predicate && slot_sound p.object
 
 -- the pattern and the next place, or the fault
-abbrev pub pattern_found : PatternRead → Read Query.Pattern
-pattern_found (P.Found p n) = got (pattern_in p) n
-pattern_found (P.Fault k) = fault k
+abbrev pub pattern_found : Result (Pattern × ℕ) Fault → Read Query.Pattern
+pattern_found (Ok x) = got (pattern_in x.0) x.1
+pattern_found (Err f) = fault f.0

@@ -5,30 +5,19 @@ ghost use Rattle.std.specs.Prelude.{◌≡◌, ◌+◌, ◌≤◌, ◌<◌, leng
 ghost use Rattle.tsparql.specs.Reading.{bits24, term_sound, slot_sound, read_pattern};
 ghost use Rattle.slots.specs.Answers.{slots_at, slots_sound, pattern_found};
 
+use refusals::Fault;
+
 // A slot below this number is a term, any other a variable.
 pub const FIRST_VARIABLE: u32 = 1048576;
 // The bytes of a pattern.
 pub const PATTERN_BYTES: usize = 9;
 
 // A pattern by its slots' 24 bits: below 1,048,576 a term, else 1,048,576 and a variable.
-#[derive(Clone, Copy)]
+#[derive(Clone, Copy, Debug, PartialEq, Eq)]
 pub struct Pattern {
     pub subject: u32,
     pub predicate: u32,
     pub object: u32,
-}
-
-// A pattern and the next place, or the place of the fault.
-#[derive(Clone, Copy)]
-pub enum PatternRead {
-    Found(Pattern, usize),
-    Fault(usize),
-}
-
-fn wide(x: u8) -> u32
-    ensures { (result ≡ x) × (result < 256) }
-{
-    x as u32
 }
 
 // The 24 bits at a place.
@@ -36,31 +25,21 @@ pub fn bits_at(q: &[u8], at: usize) -> u32
     requires { at + 3 ≤ length q.now }
     ensures { result ≡ bits24 q.now at }
 {
-    let a = wide(q[at]);
-    let b = wide(q[at + 1]);
-    let c = wide(q[at + 2]);
-    (a * 256 + b) * 256 + c
+    (u32::from(q[at]) * 256 + u32::from(q[at + 1])) * 256 + u32::from(q[at + 2])
 }
 
 // The number is 4 zero bits and a term.
 pub fn term_sound(x: u32) -> bool
     ensures { result ≡ term_sound x }
 {
-    if 0 < x { x < FIRST_VARIABLE } else { false }
+    0 < x && x < FIRST_VARIABLE
 }
 
 // The number is a slot's: a term, or a variable.
 pub fn slot_sound(x: u32) -> bool
     ensures { result ≡ slot_sound x }
 {
-    if term_sound(x) {
-        return true;
-    }
-    if FIRST_VARIABLE <= x {
-        x < 1048592
-    } else {
-        false
-    }
+    term_sound(x) || (FIRST_VARIABLE <= x && x < 1048592)
 }
 
 // The pattern of a part's first 9 bytes, whatever they hold.
@@ -68,13 +47,10 @@ pub fn pattern_at(q: &[u8]) -> Pattern
     requires { 9 ≤ length q.now }
     ensures { result ≡ slots_at q.now }
 {
-    let subject = bits_at(q, 0);
-    let predicate = bits_at(q, 3);
-    let object = bits_at(q, 6);
     Pattern {
-        subject,
-        predicate,
-        object,
+        subject: bits_at(q, 0),
+        predicate: bits_at(q, 3),
+        object: bits_at(q, 6),
     }
 }
 
@@ -82,25 +58,20 @@ pub fn pattern_at(q: &[u8]) -> Pattern
 fn pattern_sound(p: Pattern) -> bool
     ensures { result ≡ slots_sound p }
 {
-    if slot_sound(p.subject) {
-        if slot_sound(p.predicate) {
-            return slot_sound(p.object);
-        }
-    }
-    false
+    slot_sound(p.subject) && slot_sound(p.predicate) && slot_sound(p.object)
 }
 
-// The pattern that a part starts with.
-pub fn read_pattern(q: &[u8]) -> PatternRead
+// The pattern that a part starts with, and the next place.
+pub fn read_pattern(q: &[u8]) -> Result<(Pattern, usize), Fault>
     ensures { pattern_found result ≡ read_pattern q.now }
 {
     if q.len() < PATTERN_BYTES {
-        return PatternRead::Fault(0);
+        return Err(Fault(0));
     }
     let p = pattern_at(q);
     if pattern_sound(p) {
-        PatternRead::Found(p, PATTERN_BYTES)
+        Ok((p, PATTERN_BYTES))
     } else {
-        PatternRead::Fault(0)
+        Err(Fault(0))
     }
 }
