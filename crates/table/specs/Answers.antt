@@ -1,11 +1,12 @@
 -- What the answers of this crate's code mean in the terms of the definitions: the fields of a record, what the check of a table answers,
 -- and where the records of a subject start. A promise in several parts is a record. Assumes nothing.
-use Rattle.std.specs.Prelude.{◌≡◌, Bool, true, false, cond, List, ℕ, ◌+◌, ◌*◌, ◌%◌, ◌^◌, ◌≤◌, ◌<◌}
+use Rattle.std.specs.Prelude.{◌≡◌, Bool, true, false, cond, List, ℕ, ◌+◌, ◌*◌, ◌%◌, ◌^◌, ◌≤◌, ◌<◌, Result, Ok, Err}
 use Rattle.tsparql.specs.Table.{View, whole_table, record_at, fact_of}
-use Rattle.tsparql.specs.Check.{Refusal, refuse, no_refusal, passes, table_refusal}
+use Rattle.tsparql.specs.Check.{passes, table_refusal}
+use Rattle.refusals.specs.declared.Refused.{Refused}
+use Rattle.refusals.specs.Refusals.{refusal_in}
 use Rattle.table.specs.declared.Fields.{Fields}
-use Rattle.table.specs.declared.TableAnswer.{TableAnswer}
-use Rattle.table.specs.declared.TableAnswer.TheVariants.{Sound, Refused}
+use Rattle.table.specs.declared.View as Code
 
 -- the record's number that the fields are of: 60 bits of subject, predicate and object, and 12 bits of known bit and trust field
 abbrev pub number_in : Fields → ℕ
@@ -16,22 +17,17 @@ abbrev pub no_records : View
 no_records = record { records = 0 }
 
 -- what the answer lets a call see
-abbrev pub view_in : TableAnswer → View
-view_in (Sound v) = record { records = v.records }
-view_in (Refused n p) = no_records
+abbrev pub view_in : Result Code.View Refused → View
+view_in (Ok v) = record { records = v.records }
+view_in (Err r) = no_records
 
 -- the answer is that the table passes
-abbrev pub sound_in : TableAnswer → Bool
-sound_in (Sound v) = true
-sound_in (Refused n p) = false
-
--- the refusal that the answer names
-abbrev pub refusal_in : TableAnswer → Refusal
-refusal_in (Sound v) = no_refusal
-refusal_in (Refused n p) = refuse n p
+abbrev pub sound_in : Result Code.View Refused → Bool
+sound_in (Ok v) = true
+sound_in (Err r) = false
 
 -- the answer names the table's refusal, and lets a call see the whole table exactly where there is none
-pub record Checked (t : List ℕ) (r : TableAnswer) : Type 0 where
+pub record Checked (t : List ℕ) (r : Result Code.View Refused) : Type 0 where
   pub sound : sound_in r ≡ passes (table_refusal t)
   pub refusal : refusal_in r ≡ table_refusal t
   pub view : view_in r ≡ cond (passes (table_refusal t)) (whole_table t) no_records
