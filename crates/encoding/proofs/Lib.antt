@@ -1,2 +1,2 @@
--- The laws that the writers' proofs cite, and what callers know of an output.
+-- What callers know of an output that was written to.
 pub mod WriterLaws

@@ -2,21 +2,20 @@
 // they do not fit. What stands behind them is unchanged.
 #![tactic(auto)]
 
-ghost use Rattle.std.specs.Prelude.{◌≡◌, ◌+◌, ◌≤◌, ◌<◌, length};
-ghost use Rattle.std.proofs.lemmas.List.Edits.{sets};
-ghost use Rattle.tsparql.specs.Writing.{three_bytes};
+ghost use Rattle.std.specs.Prelude.{◌≤◌};
 ghost use Rattle.encoding.specs.Writers.{first_bytes, bounds_bytes, head_bytes, WroteIfFits};
 
 use heads::Head;
 
-// Three bytes of 24 bits from a place on.
-fn put_bits(out: &mut [u8], at: usize, x: u32)
-    requires { (at + 3 ≤ length out.old) × (x < 16777216) }
-    ensures { out.new ≡ sets out.old at (three_bytes x) }
+// The bytes at the front of the output, where they fit.
+fn write<const N: usize>(bytes: [u8; N], out: &mut [u8]) -> usize
+    ensures { WroteIfFits bytes.entry out.old out.new result }
 {
-    out[at] = (x / 65536) as u8;
-    out[at + 1] = (x / 256 % 256) as u8;
-    out[at + 2] = (x % 256) as u8;
+    let Some(front) = out.first_chunk_mut::<N>() else {
+        return 0;
+    };
+    *front = bytes;
+    N
 }
 
 // A first byte.
@@ -25,28 +24,22 @@ fn write_first(kind: u8, n: u8, out: &mut [u8]) -> usize
     ensures { WroteIfFits (first_bytes kind n) out.old out.new result }
 {
     if n < 16 {
-        if 0 < out.len() {
-            out[0] = 16 * kind + n;
-            return 1;
-        }
+        write([16 * kind + n], out)
+    } else {
+        0
     }
-    0
 }
 
 // Ensure trust with its bounds, plus 1000.
 fn write_bounds(l: u32, u: u32, out: &mut [u8]) -> usize
     ensures { WroteIfFits (bounds_bytes l u) out.old out.new result }
 {
-    if l <= 2000 {
-        if u <= 2000 {
-            if 4 <= out.len() {
-                out[0] = 96;
-                put_bits(out, 1, 4096 * l + u);
-                return 4;
-            }
-        }
+    if l <= 2000 && u <= 2000 {
+        let [_, a, b, c] = (4096 * l + u).to_be_bytes();
+        write([96, a, b, c], out)
+    } else {
+        0
     }
-    0
 }
 
 // A node's head at the front of the output, and how many bytes that is.
