@@ -1,7 +1,7 @@
 -- Numbers: the loop of `number` (`Reading`), and what its answer and that of `numeral` say of the automaton (`Counted`, `Begun`,
 -- `numeral-says`). Assumes nothing.
 use mathlib.Core.Path.{◌≡◌, refl, sym, ap, ◌∙◌, subst}
-use mathlib.Core.Bool.{Bool, true, false, ◌&&◌}
+use mathlib.Core.Bool.{Bool, true, false, cond, ◌&&◌}
 use mathlib.Core.Bool as B
 use mathlib.Core.List.{List, [], ◌∷◌}
 use Prim.Native.Nat.{ℕ, zero, suc, ◌+◌, ◌*◌, ◌-◌, ◌≤◌, ◌<◌}
@@ -11,13 +11,12 @@ use native.Mathlib.Nat.{le_refl}
 use lib.Dec.{leb}
 use lib.ListN.{length, drop, get_or, drop_of_length-le}
 use borrow.Author.Tests.{le-leb, lt-leb, leb-true}
-use Rattle.tsparql.proofs.ListLaws.{and_left, and_right}
+use Rattle.tsparql.proofs.ListLaws.{and_left, and_right, part-drop}
 use Rattle.grammar.proofs.Basics.{cond_cases, ahead}
 use Rattle.grammar.specs.Automaton.{Symbol, Kind, token_of, gap, first, in_number, digit, in_gap, fault, after, finish, run}
-use Rattle.scanner.specs.Scans.{goes_on, number_from, value_in, numeral_from}
+use Rattle.scanner.specs.Scans.{digit_value, goes_on, longer_by, number_from, numeral_from}
 use Rattle.scanner.specs.declared.Numeric.{Numeric}
-use Rattle.scanner.specs.declared.Digits.{Digits}
-use Rattle.scanner.specs.declared.Digits.TheVariants.{Value, Missing}
+use Rattle.std.proofs.Common.{Option, Some, None}
 use Rattle.scanner.proofs.RunLaws.{moved-prepend, run_step, move_at, stop-at, end-at}
 
 -- ---- digits
@@ -38,80 +37,48 @@ goes-within u v b e =
 
 -- ---- the loop
 
--- the digits from `at` to i, read on from v, give x
-pub record Reading (s : List ℕ) (u v at x i : ℕ) : Type 0 where
-  pub inside : i ≤ length s
+-- the first i of the bytes `bs`, which stand from `at` on, make v longer to x
+pub record Reading (bs : List ℕ) (u v at x i : ℕ) : Type 0 where
   pub most : x ≤ u
-  pub same : number_from u v at (drop at s) ≡ number_from u x i (drop i s)
+  pub same : number_from u v at bs ≡ number_from u x (at + i) (drop i bs)
 
-pub reading-first : (s : List ℕ) (u v at : ℕ) → at ≤ length s → v ≤ u → Reading s u v at v at
-reading-first s u v at h l = record { inside = h; most = l; same = refl }
+pub reading-first : (bs : List ℕ) (u v at : ℕ) → v ≤ u → Reading bs u v at v 0
+reading-first bs u v at l = record { most = l; same = ap (λ (n : ℕ). number_from u v n bs) (omega arith) }
 
-module _ (s : List ℕ) (u v at x i : ℕ) (k : Reading s u v at x i) where
-  pub reading-end : length s ≤ i → record { value = x; next = i } ≡ number_from u v at (drop at s)
+module _ (bs : List ℕ) (u v at x i : ℕ) (k : Reading bs u v at x i) where
+  pub reading-end : length bs ≤ i → record { value = x; next = at + i } ≡ number_from u v at bs
   unfolding number_from
-  reading-end h = sym (k.same ∙ rw (drop_of_length-le s h))
+  reading-end h = sym (k.same ∙ rw (drop_of_length-le bs h))
 
-  module _ (h : i < length s) where
-    -- the byte at i, and the value with it as a digit
-    abbrev digit_byte : ℕ
-    digit_byte = get_or s i 0
+  module _ (h : i < length bs) where
+    -- the byte at i
+    abbrev next_byte : ℕ
+    next_byte = get_or bs i 0
 
-    abbrev grown : ℕ
-    grown = x * 10 + (digit_byte - 48)
-
-    pub reading-one : 48 ≤ digit_byte → digit_byte ≤ 57 → 1 ≤ x → grown ≤ u → Reading s u v at grown (i + 1)
+    pub reading-one : (y : ℕ) → longer_by u x next_byte ≡ Some y → Reading bs u v at y (i + 1)
     unfolding number_from
-    reading-one l m p q =
-        let e : goes_on u x digit_byte ≡ true = rw (le-leb 48 digit_byte l, le-leb digit_byte 57 m, le-leb 1 x p, le-leb grown u q) in
-        record { inside = omega arith; most = q; same = k.same ∙ rw (ahead s i h, e, add-one i) }
+    reading-one y e = split (goes_on u x next_byte) refl e
+      where
+        split : (g : Bool) → goes_on u x next_byte ≡ g → cond g (Some (x * 10 + (next_byte - 48))) None ≡ Some y → Reading bs u v at y (i + 1)
+        split true g q =
+            let grown : x * 10 + (next_byte - 48) ≡ y = cc in
+            let place : suc (at + i) ≡ at + (i + 1) = omega arith in
+            record {
+              most = subst (λ (n : ℕ). n ≤ u) grown (goes-within u x next_byte g);
+              same = k.same ∙ rw (ahead bs i h, g, grown, place);
+            }
+        split false g q = absurd (cc)
 
-    reading-stop : goes_on u x digit_byte ≡ false → record { value = x; next = i } ≡ number_from u v at (drop at s)
+    pub reading-stop : longer_by u x next_byte ≡ None → record { value = x; next = at + i } ≡ number_from u v at bs
     unfolding number_from
-    reading-stop e = sym (k.same ∙ rw (ahead s i h, e))
+    reading-stop e = split (goes_on u x next_byte) refl e
+      where
+        split : (g : Bool) → goes_on u x next_byte ≡ g → cond g (Some (x * 10 + (next_byte - 48))) None ≡ None
+            → record { value = x; next = at + i } ≡ number_from u v at bs
+        split true g q = absurd (cc)
+        split false g q = sym (k.same ∙ rw (ahead bs i h, g))
 
-    pub reading-below : digit_byte < 48 → record { value = x; next = i } ≡ number_from u v at (drop at s)
-    reading-below l = reading-stop (rw (below-digits digit_byte l))
-
-    pub reading-above : 57 < digit_byte → record { value = x; next = i } ≡ number_from u v at (drop at s)
-    reading-above m = reading-stop (rw (above-digits digit_byte m))
-
-    pub reading-zero : x ≡ 0 → record { value = x; next = i } ≡ number_from u v at (drop at s)
-    reading-zero z = reading-stop (rw (lt-leb 1 x (omega arith), B.and-false (digit digit_byte)))
-
-    pub reading-great : u < grown → record { value = x; next = i } ≡ number_from u v at (drop at s)
-    reading-great g = reading-stop (rw (lt-leb grown u g, B.and-false (leb 1 x), B.and-false (digit digit_byte)))
-
--- ---- the first digit
-
-pub numeral-end : (s : List ℕ) (at l u : ℕ) → length s ≤ at → Missing ≡ numeral_from l u at (drop at s)
-unfolding numeral_from
-numeral-end s at l u h = sym (rw (drop_of_length-le s h))
-
-module _ (s : List ℕ) (at l u : ℕ) (h : at < length s) where
-  abbrev digit_value : ℕ
-  digit_value = get_or s at 0 - 48
-
-  numeral-missing : (digit (get_or s at 0) && leb l digit_value) ≡ false → Missing ≡ numeral_from l u at (drop at s)
-  unfolding numeral_from
-  numeral-missing e = sym (rw (ahead s at h, e))
-
-  pub numeral-below : get_or s at 0 < 48 → Missing ≡ numeral_from l u at (drop at s)
-  numeral-below b = numeral-missing (rw (below-digits (get_or s at 0) b))
-
-  pub numeral-above : 57 < get_or s at 0 → Missing ≡ numeral_from l u at (drop at s)
-  numeral-above b = numeral-missing (rw (above-digits (get_or s at 0) b))
-
-  pub numeral-small : digit_value < l → Missing ≡ numeral_from l u at (drop at s)
-  numeral-small b = numeral-missing (rw (lt-leb l digit_value b, B.and-false (digit (get_or s at 0))))
-
-  pub numeral-value :
-      (n : Numeric) → 48 ≤ get_or s at 0 → get_or s at 0 ≤ 57 → l ≤ digit_value → n ≡ number_from u digit_value (at + 1) (drop (at + 1) s)
-      → Value n.value n.next ≡ numeral_from l u at (drop at s)
-  unfolding numeral_from
-  numeral-value n a b g e =
-      ap (λ (m : Numeric). Value m.value m.next) e
-      ∙ sym (rw (ahead s at h, le-leb 48 (get_or s at 0) a, le-leb (get_or s at 0) 57 b, le-leb l digit_value g, add-one at))
+pub ruleset reading = (reading-first, reading-one, reading-stop, reading-end, part-drop)
 
 -- ---- what the answer of `number` says
 
@@ -181,6 +148,44 @@ counted-from (suc m) s u v at l q =
     (λ e. rw (← add-one at) (counted-more s u v at h _ _ e (counted-from m s u x (at + 1) (omega arith) (goes-within u v b e))))
     (λ e. counted_stop s u v at h q e))
 
+-- ---- the first digit
+
+pub numeral-end : (s : List ℕ) (at l u : ℕ) → length s ≤ at → None ≡ numeral_from l u at (drop at s)
+unfolding numeral_from
+numeral-end s at l u h = sym (rw (drop_of_length-le s h))
+
+module _ (s : List ℕ) (at l u : ℕ) (h : at < length s) where
+  -- the byte there
+  abbrev first_byte : ℕ
+  first_byte = get_or s at 0
+
+  pub numeral-none : digit_value first_byte ≡ None → None ≡ numeral_from l u at (drop at s)
+  unfolding numeral_from
+  numeral-none e = split (digit first_byte) refl e
+    where
+      split : (g : Bool) → digit first_byte ≡ g → cond g (Some (first_byte - 48)) None ≡ None → None ≡ numeral_from l u at (drop at s)
+      split true g q = absurd (cc)
+      split false g q = sym (rw (ahead s at h, g))
+
+  module _ (v : ℕ) (e : digit_value first_byte ≡ Some v) where
+    is : (digit first_byte ≡ true) × (first_byte - 48 ≡ v)
+    is = split (digit first_byte) refl e
+      where
+        split : (g : Bool) → digit first_byte ≡ g → cond g (Some (first_byte - 48)) None ≡ Some v
+            → (digit first_byte ≡ true) × (first_byte - 48 ≡ v)
+        split true g q = (g, cc)
+        split false g q = absurd (cc)
+
+    pub numeral-small : v < l → None ≡ numeral_from l u at (drop at s)
+    unfolding numeral_from
+    numeral-small b = sym (rw (ahead s at h, is.0, is.1, lt-leb l v b))
+
+    pub numeral-value : l ≤ v → Some (number_from u v (at + 1) (drop (at + 1) s)) ≡ numeral_from l u at (drop at s)
+    unfolding numeral_from
+    numeral-value b = sym (rw (ahead s at h, is.0, is.1, le-leb l v b, add-one at))
+
+pub ruleset beginning = (numeral-end, numeral-none, numeral-small, numeral-value)
+
 -- ---- what the answer of `numeral` says
 
 -- a number from l to u stands from `at` to `next`
@@ -197,9 +202,9 @@ pub record Lacking (s : List ℕ) (at l u : ℕ) : Type 0 where
   pub runs : (k : Kind) (σ : List Symbol) → run (drop at s) at (first l u k σ) ≡ fault at
 
 -- by the answer
-abbrev pub Begun : List ℕ → ℕ → ℕ → ℕ → Digits → Type 0
-Begun s at l u (Value value next) = Valued s at l u value next
-Begun s at l u Missing = Lacking s at l u
+abbrev pub Begun : List ℕ → ℕ → ℕ → ℕ → Option Numeric → Type 0
+Begun s at l u (Some n) = Valued s at l u n.value n.next
+Begun s at l u None = Lacking s at l u
 
 module _ (s : List ℕ) (at l u : ℕ) where
   module _ (h : at < length s) where
@@ -213,7 +218,7 @@ module _ (s : List ℕ) (at l u : ℕ) where
     lacks : begins ≡ false → Lacking s at l u
     lacks e = record { runs = λ k σ. stop-at s at (first l u k σ) h (rw e) }
 
-    values : 9 ≤ u → begins ≡ true → Begun s at l u (value_in (number_from u (head - 48) (at + 1) (drop (at + 1) s)))
+    values : 9 ≤ u → begins ≡ true → Begun s at l u (Some (number_from u (head - 48) (at + 1) (drop (at + 1) s)))
     values q e =
         let m = digit-most head (and_left (digit head) (leb l (head - 48)) e) in
         let c = counted-from (length s - (at + 1)) s u (head - 48) (at + 1) (omega arith) (omega arith) in
@@ -235,5 +240,5 @@ module _ (s : List ℕ) (at l u : ℕ) where
       let h : at < length s = omega arith in
       rw (ahead s at h, ← add-one at) (cond_cases (Begun s at l u) (begins h) (values h q) (lacks h))
 
-  pub numeral-says : (d : Digits) → at ≤ length s → 9 ≤ u → d ≡ numeral_from l u at (drop at s) → Begun s at l u d
+  pub numeral-says : (d : Option Numeric) → at ≤ length s → 9 ≤ u → d ≡ numeral_from l u at (drop at s) → Begun s at l u d
   numeral-says d h q e = subst (Begun s at l u) (sym e) (begun (length s - at) (omega arith) q)

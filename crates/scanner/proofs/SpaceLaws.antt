@@ -1,52 +1,39 @@
--- White space: the loop of `skip` (`Skipping`), and what its answer says of the automaton (`Skipped`, `skip-says`). Assumes nothing.
+-- White space: how much a text begins with (`spaces-..`), and what the answer of `skip` says of the automaton (`Skipped`, `skip-says`).
+-- Assumes nothing.
 use mathlib.Core.Path.{◌≡◌, refl, sym, ap, ◌∙◌, subst}
-use mathlib.Core.Bool.{Bool, true, false, ◌&&◌}
+use mathlib.Core.Bool.{Bool, true, false, cond, ◌&&◌}
 use mathlib.Core.Bool as B
-use mathlib.Core.List.{List}
+use mathlib.Core.List.{List, [], ◌∷◌}
+use Rattle.std.specs.List.{prefix_len}
+use Rattle.std.proofs.lemmas.List.Sums.{prefix_len-le-length}
 use Prim.Native.Nat.{ℕ, zero, suc, ◌+◌, ◌-◌, ◌≤◌, ◌<◌}
 use native.Mathlib.Omega.{arith}
 use native.Mathlib.Numerals.{add-one}
 use native.Mathlib.Nat.{le_refl}
 use lib.Dec.{eqb}
-use lib.ListN.{length, drop, get_or, drop_of_length-le}
+use lib.ListN.{length, take, drop, get_or, drop_of_length-le}
 use borrow.Author.Tests.{eq-eqb, ne_eqb}
+use Rattle.tsparql.proofs.ListLaws.{part-drop}
 use Rattle.grammar.proofs.Basics.{cond_cases, ahead}
 use Rattle.grammar.specs.Tokens.{is_space}
 use Rattle.grammar.specs.Automaton.{Symbol, gap, run}
 use Rattle.scanner.specs.Scans.{skip_from}
 use Rattle.scanner.proofs.RunLaws.{move_at}
 
--- ---- the loop
+-- ---- how many there are
 
--- white space from `at` to i
-pub record Skipping (s : List ℕ) (at i : ℕ) : Type 0 where
-  pub inside : i ≤ length s
-  pub same : skip_from at (drop at s) ≡ skip_from i (drop i s)
+spaces-from : (at : ℕ) (s : List ℕ) → at + prefix_len is_space s ≡ skip_from at s
+unfolding skip_from
+spaces-from at [] = omega arith
+spaces-from at (b ∷ s) =
+    let more = spaces-from (suc at) s in
+    cond_cases (λ (n : ℕ). at + n ≡ skip_from at (b ∷ s)) (is_space b) (λ e. rw e (omega arith)) (λ e. rw e (omega arith))
 
-pub skipping-first : (s : List ℕ) (at : ℕ) → at ≤ length s → Skipping s at at
-skipping-first s at h = record { inside = h; same = refl }
+-- of the part of a text from a place on
+pub spaces-behind : (s : List ℕ) (at : ℕ) → at + prefix_len is_space (take (length s - at) (drop at s)) ≡ skip_from at (drop at s)
+spaces-behind s at = rw part-drop (spaces-from at (drop at s))
 
-module _ (s : List ℕ) (at i : ℕ) (k : Skipping s at i) where
-  pub skipping-one : i < length s → (b : ℕ) → get_or s i 0 ≡ b → is_space b ≡ true → Skipping s at (i + 1)
-  unfolding skip_from
-  skipping-one h b e p = record { inside = omega arith; same = k.same ∙ rw (ahead s i h, e, p, add-one i) }
-
-  -- a space, a line feed
-  pub skipping_space : i < length s → get_or s i 0 ≡ 32 → Skipping s at (i + 1)
-  skipping_space h e = skipping-one h 32 e refl
-
-  pub skipping_feed : i < length s → get_or s i 0 ≡ 10 → Skipping s at (i + 1)
-  skipping_feed h e = skipping-one h 10 e refl
-
-  pub skipping-stop : i < length s → (get_or s i 0 ≡ 32 → ⊥) → (get_or s i 0 ≡ 10 → ⊥) → i ≡ skip_from at (drop at s)
-  unfolding skip_from
-  skipping-stop h e f = sym (k.same ∙ rw (ahead s i h, ne_eqb (get_or s i 0) 32 e, ne_eqb (get_or s i 0) 10 f))
-
-  pub skipping-end : length s ≤ i → i ≡ skip_from at (drop at s)
-  unfolding skip_from
-  skipping-end h = sym (k.same ∙ rw (drop_of_length-le s h))
-
-pub ruleset skipping = (skipping_space, skipping_feed, skipping-stop, skipping-end)
+pub ruleset skipping = (spaces-behind, prefix_len-le-length)
 
 -- ---- what the answer says
 

@@ -1,9 +1,8 @@
 -- The fixed tokens by their first byte, and how much of one a text begins with. Assumes nothing.
-use Rattle.std.specs.Prelude.{cond, List, [], ◌∷◌, ℕ, eqb, ltb, length}
+use Rattle.std.specs.Prelude.{cond, List, [], ◌∷◌, ℕ, eqb, ltb, length, Result, Ok, Err}
 use Rattle.grammar.specs.Tokens as T
 use Rattle.scanner.specs.Scans.{common}
-use Rattle.scanner.specs.declared.Literal.{Literal}
-use Rattle.scanner.specs.declared.Literal.TheVariants as L
+use Rattle.refusals.specs.declared.Fault.{Fault}
 
 -- BOUND, TRUST and AS; any other byte is a token of its own
 abbrev pub short_keyword : ℕ → List ℕ
@@ -18,6 +17,6 @@ keyword_of b =
 abbrev pub fixed_token : ℕ → List ℕ
 fixed_token b = cond (eqb b 38) T.AND (cond (eqb b 124) T.OR (keyword_of b))
 
--- whether the text has the token whole, and how many bytes of it
-abbrev pub compared : List ℕ → List ℕ → Literal
-compared token text = cond (ltb (common token text) (length token)) (L.Part (common token text)) (L.Whole (common token text))
+-- the token's length where the text has it whole, else the place of the first byte that differs
+abbrev pub compared : List ℕ → List ℕ → Result ℕ Fault
+compared token text = cond (ltb (common token text) (length token)) (Err (record { 0 = common token text })) (Ok (common token text))

@@ -1,12 +1,24 @@
 // What a text has at a place: white space, fixed tokens, numbers.
 #![tactic(auto)]
 
-ghost use Rattle.std.specs.Prelude.{◌≡◌, ◌≤◌, ◌<◌, length, drop, get_or};
-ghost use Rattle.grammar.specs.Tokens.{is_capital};
-ghost use Rattle.scanner.specs.Scans.{skip_from, common, number_from, numeral_from};
+ghost use Rattle.std.specs.Prelude.{◌≡◌, ◌≤◌, ◌<◌, eqb, length, drop, get_or};
+ghost use Rattle.std.specs.List.{prefix_len, zip};
+ghost use Rattle.grammar.specs.Tokens.{is_space};
+ghost use Rattle.scanner.specs.Scans.{skip_from, digit_value, longer_by, number_from, numeral_from};
 ghost use Rattle.scanner.specs.Fixed.{compared, short_keyword, keyword_of, fixed_token};
 
+use refusals::Fault;
+
 // ---- white space
+
+// With how many bytes of it a text begins.
+fn spaces(text: &[u8]) -> usize
+    ensures { result ≡ prefix_len is_space text.now }
+{
+    text.iter()
+        .take_while(|b| matches!(**b, b' ' | b'\n'))
+        .count()
+}
 
 // The first place from a place on that holds none.
 #[tactic(auto, using(crate::proofs::SpaceLaws::skipping))]
@@ -14,60 +26,30 @@ pub fn skip(s: &[u8], at: usize) -> usize
     requires { at ≤ length s.now }
     ensures { result ≡ skip_from at (drop at s.now) }
 {
-    let mut i = at;
-    while i < s.len() {
-        let b = s[i];
-        if b == 32 {
-            i += 1;
-        } else if b == 10 {
-            i += 1;
-        } else {
-            return i;
-        }
-    }
-    i
+    at + spaces(&s[at..])
 }
 
 // ---- fixed tokens
 
-// How many bytes of a word the text begins with.
+// How many bytes a text and a word begin with alike.
 fn shared(text: &[u8], word: &[u8]) -> usize
-    ensures { result ≡ common word.now text.now }
+    ensures { result ≡ prefix_len (λ p. eqb p.0 p.1) (zip text.now word.now) }
 {
-    let mut i = 0;
-    while i < word.len() {
-        if text.len() <= i {
-            return i;
-        }
-        if text[i] != word[i] {
-            return i;
-        }
-        i += 1;
-    }
-    i
+    text.iter().zip(word).take_while(|(b, c)| b == c).count()
 }
 
-// How many bytes of a token a text begins with: all of them, or a part.
-#[derive(Clone, Copy)]
-pub enum Literal {
-    Whole(usize),
-    Part(usize),
-}
-
-// Whether the text has the word whole, and how many bytes of it.
-fn compare(text: &[u8], word: &[u8]) -> Literal
+// The word's length where the text has it whole, else the place of the first byte that differs.
+#[tactic(auto, using(crate::proofs::CompareLaws::comparing))]
+fn compare(text: &[u8], word: &[u8]) -> Result<usize, Fault>
     ensures { result ≡ compared word.now text.now }
 {
     let n = shared(text, word);
-    if n < word.len() {
-        return Literal::Part(n);
-    }
-    Literal::Whole(n)
+    if n < word.len() { Err(Fault(n)) } else { Ok(n) }
 }
 
 // BOUND, TRUST and AS, and the tokens of one byte.
 #[tactic(auto, unfolding(tsparql::specs::Strikes::ascii))]
-fn short_keyword(text: &[u8], first: u8) -> Literal
+fn short_keyword(text: &[u8], first: u8) -> Result<usize, Fault>
     requires { (0 < length text.now) × (get_or text.now 0 0 ≡ first) }
     ensures { result ≡ compared (short_keyword first) text.now }
 {
@@ -75,13 +57,13 @@ fn short_keyword(text: &[u8], first: u8) -> Literal
         b'B' => compare(text, b"BOUND"),
         b'T' => compare(text, b"TRUST"),
         b'A' => compare(text, b"AS"),
-        _ => Literal::Whole(1),
+        _ => Ok(1),
     }
 }
 
 // The other keywords besides.
 #[tactic(auto, unfolding(tsparql::specs::Strikes::ascii))]
-fn keyword(text: &[u8], first: u8) -> Literal
+fn keyword(text: &[u8], first: u8) -> Result<usize, Fault>
     requires { (0 < length text.now) × (get_or text.now 0 0 ≡ first) }
     ensures { result ≡ compared (keyword_of first) text.now }
 {
@@ -96,7 +78,7 @@ fn keyword(text: &[u8], first: u8) -> Literal
 
 // The same of the fixed token with this first byte.
 #[tactic(auto, unfolding(tsparql::specs::Strikes::ascii))]
-pub fn fixed_token(text: &[u8], first: u8) -> Literal
+pub fn fixed_token(text: &[u8], first: u8) -> Result<usize, Fault>
     requires { (0 < length text.now) × (get_or text.now 0 0 ≡ first) }
     ensures { result ≡ compared (fixed_token first) text.now }
 {
@@ -105,16 +87,6 @@ pub fn fixed_token(text: &[u8], first: u8) -> Literal
         b'|' => compare(text, b"||"),
         _ => keyword(text, first),
     }
-}
-
-// A to Z.
-pub fn capital(b: u8) -> bool
-    ensures { result ≡ is_capital b }
-{
-    if b < 65 {
-        return false;
-    }
-    b <= 90
 }
 
 // ---- numbers
@@ -126,60 +98,58 @@ pub struct Numeric {
     pub next: usize,
 }
 
-// The number that begins with the value v and goes on with the digits from a place on, as far as it stays within u.
-fn number(s: &[u8], at: usize, v: u32, u: u32) -> Numeric
-    requires { (at ≤ length s.now) × (v ≤ u) × (u < 2000000) }
-    ensures { result ≡ number_from u v at (drop at s.now) }
+// The value of a digit.
+fn digit_value(b: u8) -> Option<u32>
+    ensures { result ≡ digit_value b }
 {
-    let mut i = at;
-    let mut x = v;
-    while i < s.len() {
-        let b = s[i];
-        if b < 48 {
-            return Numeric { value: x, next: i };
-        }
-        if 57 < b {
-            return Numeric { value: x, next: i };
-        }
-        if x == 0 {
-            return Numeric { value: x, next: i };
-        }
-        let y = x * 10 + ((b as u32) - 48);
-        if u < y {
-            return Numeric { value: x, next: i };
-        }
-        x = y;
-        i += 1;
+    match b {
+        b'0'..=b'9' => Some(u32::from(b - b'0')),
+        _ => None,
     }
-    Numeric { value: x, next: i }
 }
 
-// The same, or that there is no number.
-#[derive(Clone, Copy)]
-pub enum Digits {
-    Value(u32, usize),
-    Missing,
+// A value with the byte as one digit more, up to the greatest; none follows a leading 0.
+fn longer(value: u32, b: u8, most: u32) -> Option<u32>
+    requires { (value ≤ most) × (most < 2000000) }
+    ensures { result ≡ longer_by most value b }
+{
+    let digit = digit_value(b)?;
+    let more = value * 10 + digit;
+    (0 < value && more <= most).then_some(more)
+}
+
+// The number whose first digits give a value and which goes on at a place, as far as it stays within the greatest.
+#[tactic(auto, using(crate::proofs::NumberLaws::reading))]
+fn number(s: &[u8], at: usize, first: u32, most: u32) -> Numeric
+    requires { (at ≤ length s.now) × (first ≤ most) × (most < 2000000) }
+    ensures { result ≡ number_from most first at (drop at s.now) }
+{
+    let mut value = first;
+    let rest = &s[at..];
+    for (i, b) in rest.iter().enumerate() {
+        let Some(more) = longer(value, *b, most) else {
+            return Numeric {
+                value,
+                next: at + i,
+            };
+        };
+        value = more;
+    }
+    Numeric {
+        value,
+        next: s.len(),
+    }
 }
 
 // A number from l, 0 or 1, to u whose first digit stands at a place.
-pub fn numeral(s: &[u8], at: usize, l: u32, u: u32) -> Digits
+#[tactic(auto, using(crate::proofs::NumberLaws::beginning))]
+pub fn numeral(s: &[u8], at: usize, l: u32, u: u32) -> Option<Numeric>
     requires { (at ≤ length s.now) × (l ≤ 1) × (9 ≤ u) × (u < 2000000) }
     ensures { result ≡ numeral_from l u at (drop at s.now) }
 {
-    if s.len() <= at {
-        return Digits::Missing;
+    let first = digit_value(*s.get(at)?)?;
+    if first < l {
+        return None;
     }
-    let b = s[at];
-    if b < 48 {
-        return Digits::Missing;
-    }
-    if 57 < b {
-        return Digits::Missing;
-    }
-    let v = (b as u32) - 48;
-    if v < l {
-        return Digits::Missing;
-    }
-    let n = number(s, at + 1, v, u);
-    Digits::Value(n.value, n.next)
+    Some(number(s, at + 1, first, u))
 }
