@@ -1,57 +1,55 @@
 -- The check of a query by its parts: too long, a fault, surplus bytes, a clash, or sound. Assumes nothing.
-use mathlib.Core.Path.{◌≡◌, sym, ◌∙◌}
-use mathlib.Core.List.{List}
-use Prim.Native.Nat.{ℕ, ◌≤◌, ◌<◌}
-use native.Mathlib.Nat.{zero-add}
-use native.Mathlib.Omega.{arith}
+use Rattle.std.proofs.Common.{◌≡◌, List, ℕ, ◌≤◌, ◌<◌, length, false, Ok, Err, refl, sym, ◌∙◌, zero-add}
 use borrow.Author.Tests.{lt-ltb, le-ltb, eq-eqb, ne_eqb}
-use lib.ListN.{length}
-use Rattle.tsparql.specs.Query.{Node}
 use Rattle.tsparql.specs.Reading.{got, fault, read_node, read_query, query_node}
-use Rattle.tsparql.specs.Check.{refuse, variables_refusal, query_refusal}
+use Rattle.tsparql.specs.Check.{refuse, no_refusal, passes, variables_refusal, query_refusal}
+use Rattle.heads.specs.declared.Head.{Head}
+use Rattle.query.specs.Answers.{node_head}
+use Rattle.query.specs.Parts.{map_read}
 use Rattle.query.specs.Found.{QuerySound}
-use Rattle.scope.specs.declared.Clash.{Clash}
-use Rattle.scope.specs.declared.Clash.TheVariants as C
-use Rattle.scope.specs.declared.QueryAnswer.{QueryAnswer}
-use Rattle.scope.specs.declared.QueryAnswer.TheVariants as A
-use Rattle.scope.specs.Variables.{clash_in, Checked}
+use Rattle.query.proofs.ReadLaws.{made_fault, made_got}
+use Rattle.refusals.specs.declared.Refused.{Refused}
+use Rattle.refusals.specs.declared.Refused.TheVariants as R
+use Rattle.refusals.specs.Refusals.{refusal_of}
+use Rattle.scope.specs.Variables.{Checked}
 
--- a refusal, by its number
-refused-checked : (limit n p : ℕ) (s : List ℕ) → 1 ≤ n → query_refusal limit s ≡ refuse n p → Checked limit s (A.Refused n p)
-refused-checked limit n p s l e = record { sound = rw (e, ne_eqb n 0 (λ z. omega arith)); refusal = sym e }
+module _ (limit : ℕ) (s : List ℕ) where
+  -- a refusal, by its number
+  refused-checked : (r : Refused) → passes (refusal_of r) ≡ false → query_refusal limit s ≡ refusal_of r → Checked limit s (Err r)
+  refused-checked r n e = record { sound = rw (e, n); refusal = sym e }
 
-pub long-checked : (limit : ℕ) (s : List ℕ) → limit < length s → Checked limit s (A.Refused 5 0)
-unfolding query_refusal
-long-checked limit s l = refused-checked limit 5 0 s (omega arith) (rw (lt-ltb limit (length s) l))
+  pub long-checked : limit < length s → Checked limit s (Err R.QueryTooLong)
+  unfolding query_refusal
+  long-checked l = refused-checked R.QueryTooLong refl (rw (lt-ltb limit (length s) l))
 
-pub fault-checked : (limit p : ℕ) (s : List ℕ) → length s ≤ limit → read_node s ≡ fault p → Checked limit s (A.Refused 6 p)
-unfolding query_refusal read_query
-fault-checked limit p s l e = refused-checked limit 6 p s (omega arith) (rw (le-ltb limit (length s) l, e, zero-add p))
+  pub fault-checked : {p : ℕ} → length s ≤ limit → fault p ≡ map_read node_head (read_node s) → Checked limit s (Err (R.QueryFault p))
+  unfolding query_refusal read_query
+  fault-checked {p} l e =
+      let bad = made_fault node_head (read_node s) p (sym e) in
+      refused-checked (R.QueryFault p) refl (rw (le-ltb limit (length s) l, bad, zero-add p))
 
-pub surplus-checked : (limit n : ℕ) (s : List ℕ) (x : Node) → length s ≤ limit → read_node s ≡ got x n → (n ≡ length s → ⊥)
-    → Checked limit s (A.Refused 6 n)
-unfolding query_refusal read_query
-surplus-checked limit n s x l e d =
-    refused-checked limit 6 n s (omega arith) (rw (le-ltb limit (length s) l, e, zero-add n, ne_eqb n (length s) d))
+-- a node was read
+module _ {h : Head} {n : ℕ} (s : List ℕ) (e : got h n ≡ map_read node_head (read_node s)) where
+  pub surplus-checked : (limit : ℕ) → length s ≤ limit → (n ≡ length s → ⊥) → Checked limit s (Err (R.QueryFault n))
+  unfolding query_refusal read_query
+  surplus-checked limit l d =
+      let node = made_got node_head (read_node s) h n (sym e) in
+      refused-checked limit s (R.QueryFault n) refl (rw (le-ltb limit (length s) l, node.1, zero-add n, ne_eqb n (length s) d))
 
--- a node up to the end is a query
-pub whole-sound : (n : ℕ) (s : List ℕ) (x : Node) → read_node s ≡ got x n → n ≡ length s → QuerySound s
-unfolding read_query
-whole-sound n s x e d = rw (e, zero-add n, eq-eqb n (length s) d) tt
+  -- up to the end it is a query
+  pub whole-sound : n ≡ length s → QuerySound s
+  unfolding read_query
+  whole-sound d = rw ((made_got node_head (read_node s) h n (sym e)).1, zero-add n, eq-eqb n (length s) d) tt
 
-whole-refusal : (limit n : ℕ) (s : List ℕ) (x : Node) → length s ≤ limit → read_node s ≡ got x n → n ≡ length s
-    → query_refusal limit s ≡ variables_refusal (query_node s)
-unfolding query_refusal read_query query_node
-whole-refusal limit n s x l e d = rw (le-ltb limit (length s) l, e, zero-add n, eq-eqb n (length s) d)
+  module _ (limit : ℕ) (l : length s ≤ limit) (d : n ≡ length s) where
+    whole-refusal : query_refusal limit s ≡ variables_refusal (query_node s)
+    unfolding query_refusal read_query query_node
+    whole-refusal =
+        let node = made_got node_head (read_node s) h n (sym e) in
+        rw (le-ltb limit (length s) l, node.1, zero-add n, eq-eqb n (length s) d)
 
--- the answer by the first clash
-abbrev pub by_clash : Clash → QueryAnswer
-by_clash C.Nowhere = A.Sound
-by_clash (C.At p) = A.Refused 7 p
+    pub clash-checked : {p : ℕ} → refuse 7 p ≡ variables_refusal (query_node s) → Checked limit s (Err (R.VariableClash p))
+    clash-checked {p} c = refused-checked limit s (R.VariableClash p) refl (whole-refusal ∙ sym c)
 
-pub whole-checked : (limit n : ℕ) (s : List ℕ) (x : Node) (c : Clash) → length s ≤ limit → read_node s ≡ got x n → n ≡ length s
-    → clash_in c ≡ variables_refusal (query_node s) → Checked limit s (by_clash c)
-whole-checked limit n s x C.Nowhere l e d h =
-    let none = whole-refusal limit n s x l e d ∙ sym h in
-    record { sound = rw none; refusal = sym none }
-whole-checked limit n s x (C.At p) l e d h = refused-checked limit 7 p s (omega arith) (whole-refusal limit n s x l e d ∙ sym h)
+    pub passed-checked : no_refusal ≡ variables_refusal (query_node s) → Checked limit s (Ok tt)
+    passed-checked c = let none = whole-refusal ∙ sym c in record { sound = rw none; refusal = sym none }

@@ -10,15 +10,18 @@ use borrow.Author.Tests.{lt-ltb, le-ltb, eqb-true, eqb-false, eq-eqb, ne_eqb}
 use lib.Dec.{eqb, ltb}
 use Rattle.tsparql.specs.Lists.{keep_if, concat_map}
 use Rattle.tsparql.specs.Query.{Node, pattern_set, join, left_join, union, filter, project_trust, ensure_trust}
-use Rattle.tsparql.specs.Check.{variables_of, pattern_variables, occurrences, clashing, TrustProjection, projected_variable, trust_projections}
-use Rattle.tsparql.specs.Check.{refuse, clashes, first_clash}
+use Rattle.tsparql.specs.Check.{Refusal, refuse, variables_of, pattern_variables, occurrences, clashing, clashes, first_clash}
+use Rattle.tsparql.specs.Check.{TrustProjection, projected_variable, trust_projections}
 use Rattle.tsparql.proofs.FreeVariables.{occurrences-append}
 use Rattle.tsparql.proofs.PushQuery.{project_variables, trust_projections-variables}
 use Rattle.tsparql.specs.Writing.{condition_size, node_size}
 use Rattle.tsparql.proofs.QuerySize.{node_size-join, node_size-left_join, node_size-union, node_size-filter}
 use Rattle.tsparql.proofs.QuerySize.{node_size-project_trust, node_size-ensure_trust}
 use Rattle.query.proofs.Forest.{operands_in, operands_at}
-use Rattle.scope.specs.Variables.{own_uses}
+use Rattle.scope.specs.Variables.{own_uses, head_variable, projected_clashes}
+use Rattle.query.specs.Answers.{node_head}
+use Rattle.tsparql.specs.Reading.{query_node}
+use Rattle.std.specs.Prelude.{Option, None, Some}
 
 -- ---- uses
 
@@ -121,15 +124,10 @@ abbrev pub forest_projections : ℕ → List Node → List TrustProjection
 forest_projections at [] = []
 forest_projections at (x ∷ xs) = trust_projections at x ++ forest_projections (at + node_size x) xs
 
--- a node's own projection, if it is one
-abbrev pub own_projection : ℕ → Node → List TrustProjection
-own_projection at (pattern_set ps) = []
-own_projection at (join x y) = []
-own_projection at (left_join c x y) = []
-own_projection at (union x y) = []
-own_projection at (filter c x) = []
-own_projection at (project_trust v x) = record { place = at; variable = v } ∷ []
-own_projection at (ensure_trust l u x) = []
+-- a node's own projection, by the variable that it projects its trust to
+abbrev pub own_projection : ℕ → Option ℕ → List TrustProjection
+own_projection at None = []
+own_projection at (Some v) = record { place = at; variable = v } ∷ []
 
 -- two operands from a place on, and the nodes behind them
 two-projections : (at i j k : ℕ) (x y : Node) (xs : List Node) → at ≡ i → i + node_size x ≡ j → j + node_size y ≡ k
@@ -143,7 +141,8 @@ one-projection at i k x xs d e = rw (d, e)
 
 -- a node's projections are its own and its operands'
 pub forest_projections-step : (at : ℕ) (x : Node) (xs : List Node)
-    → forest_projections at (x ∷ xs) ≡ own_projection at x ++ forest_projections (at + operands_at x (node_size x)) (operands_in x ++ xs)
+    → forest_projections at (x ∷ xs)
+    ≡ own_projection at (head_variable (node_head x)) ++ forest_projections (at + operands_at x (node_size x)) (operands_in x ++ xs)
 unfolding trust_projections
 forest_projections-step at (pattern_set ps) xs = refl
 forest_projections-step at (join x y) xs =
@@ -163,23 +162,18 @@ forest_projections-step at (project_trust v x) xs =
 forest_projections-step at (ensure_trust l u x) xs =
     one-projection (at + 4) (at + 4) (at + node_size (ensure_trust l u x)) x xs refl (omega (arith, node_size-ensure_trust l u x))
 
--- ---- the loops' steps
+-- ---- the loop's steps
 
--- the first clash of what is left, where the next node projects nothing
-pub clash-pass : (q : Node) (at : ℕ) (x : Node) (xs : List Node) → own_projection at x ≡ []
-    → first_clash (keep_if (clashes q) (forest_projections at (x ∷ xs)))
-    ≡ first_clash (keep_if (clashes q) (forest_projections (at + operands_at x (node_size x)) (operands_in x ++ xs)))
-clash-pass q at x xs e = rw (forest_projections-step at x xs, e)
+-- 7 at the first of the project trust nodes whose variable clashes
+abbrev pub clash_among : List ℕ → List TrustProjection → Refusal
+clash_among s ps = first_clash (keep_if (clashes (query_node s)) ps)
 
--- where it projects a variable that does not clash
-pub clash-free : (q : Node) (at v : ℕ) (x : Node) (xs : List Node) → own_projection at x ≡ record { place = at; variable = v } ∷ []
-    → clashing (pattern_variables q) (map projected_variable (trust_projections 0 q)) v ≡ false
-    → first_clash (keep_if (clashes q) (forest_projections at (x ∷ xs)))
-    ≡ first_clash (keep_if (clashes q) (forest_projections (at + operands_at x (node_size x)) (operands_in x ++ xs)))
-clash-free q at v x xs e d = rw (forest_projections-step at x xs, e, d)
+-- it is at a node whose variable clashes, and else behind it
+module _ (s : List ℕ) (at : ℕ) (ps : List TrustProjection) where
+  pub clash-here : (o : Option ℕ) → projected_clashes s o ≡ true → clash_among s (own_projection at o ++ ps) ≡ refuse 7 at
+  clash-here None e = cc
+  clash-here (Some v) e = rw e
 
--- where it projects one that does
-pub clash-here : (q : Node) (at v : ℕ) (x : Node) (xs : List Node) → own_projection at x ≡ record { place = at; variable = v } ∷ []
-    → clashing (pattern_variables q) (map projected_variable (trust_projections 0 q)) v ≡ true
-    → first_clash (keep_if (clashes q) (forest_projections at (x ∷ xs))) ≡ refuse 7 at
-clash-here q at v x xs e d = rw (forest_projections-step at x xs, e, d)
+  pub clash-behind : (o : Option ℕ) → projected_clashes s o ≡ false → clash_among s (own_projection at o ++ ps) ≡ clash_among s ps
+  clash-behind None e = refl
+  clash-behind (Some v) e = rw e
