@@ -1,7 +1,7 @@
 -- Words and what they stand for. Reading what was written gives the value (for a sound trust and a formed cell), writing what was read
 -- gives the word (up to 2001 and 1,050,577), what is read is always sound and formed, and values in range are fixed by what they stand
 -- for. By cases on the tests. Assumes nothing.
-use mathlib.Core.Path.{◌≡◌, refl, sym, ap, subst}
+use mathlib.Core.Path.{◌≡◌, refl, ap}
 use Prim.Native.Nat.{ℕ, ◌+◌, ◌≤◌}
 use native.Mathlib.Omega.{arith}
 use borrow.Author.Tests.{le-leb, lt-ltb, ne_eqb}
@@ -10,13 +10,8 @@ use Rattle.tsparql.specs.Values.{Trust, known, unknown, Sound, Cell, free, term,
 use Rattle.tsparql.specs.Evaluate.{trust_word, cell_word}
 use Rattle.cells.specs.declared.Trust as Declared
 use Rattle.cells.specs.declared.Trust.TheVariants.{Known, Unknown}
-use Rattle.cells.specs.declared.thousandths.Thousandths.{Thousandths, in_range-type}
-use Rattle.std.proofs.Props.{props}
-use lib.Signed.{◌≤ℤ◌}
-use Rattle.std.proofs.lemmas.Int.{ints}
 use Rattle.std.proofs.lemmas.Bool.Decides.{nat_tests}
-use Rattle.cells.specs.Shift.{shift}
-use Rattle.cells.specs.Words.{trust_in, word_trust, word_cell, Formed}
+use Rattle.cells.specs.Words.{shift, trust_in, NumberInRange, InRange, word_trust, word_cell, Formed}
 
 -- ---- trust
 
@@ -34,23 +29,18 @@ pub word_sound : (w : ℕ) → Sound (word_trust w)
 word_sound w = grind (arith, nat_tests)
 
 -- numbers in range with one shifted number are the same
-shift-apart : (x y : ℤ) → negsuc 999 ≤ℤ x → x ≤ℤ pos 1000 → negsuc 999 ≤ℤ y → y ≤ℤ pos 1000 → shift x ≡ shift y → x ≡ y
-shift-apart x y a b c d e = grind (arith, ints)
+shift-apart : (x y : ℤ) → NumberInRange x → NumberInRange y → shift x ≡ shift y → x ≡ y
+shift-apart (pos m) (pos n) h k e = ap pos (omega arith)
+shift-apart (pos m) (negsuc n) h k e = absurd (omega arith)
+shift-apart (negsuc m) (pos n) h k e = absurd (omega arith)
+shift-apart (negsuc m) (negsuc n) h k e = ap negsuc (omega arith)
 
--- trusts with one shifted number are the same
-known-apart : (x y : Thousandths) → shift x.number ≡ shift y.number → x ≡ y
-known-apart x y e =
-    let n : x.number ≡ y.number = shift-apart x.number y.number x.in_range.0 x.in_range.1 y.in_range.0 y.in_range.1 e in
-    let one : IsProp (in_range-type y.number) = Prim.hlevel props in
-    let Same : ℤ → Type 0 = λ z. (r : in_range-type z) → ◌≡◌ {A = Thousandths} (record { number = z; in_range = r }) y in
-    subst Same (sym n) (λ r. ap (λ (q : in_range-type y.number). record { number = y.number; in_range = q }) (one r y.in_range)) x.in_range
-
--- values that stand for one trust are the same
-pub value-fixed : (s t : Declared.Trust) → trust_in s ≡ trust_in t → s ≡ t
-value-fixed (Known x) (Known y) e = ap Known (known-apart x y cc)
-value-fixed (Known x) Unknown e = cc
-value-fixed Unknown (Known y) e = cc
-value-fixed Unknown Unknown e = refl
+-- values in range that stand for one trust are the same
+pub value-fixed : (s t : Declared.Trust) → InRange s → InRange t → trust_in s ≡ trust_in t → s ≡ t
+value-fixed (Known x) (Known y) h k e = ap Known (shift-apart x y h k cc)
+value-fixed (Known x) Unknown h k e = cc
+value-fixed Unknown (Known y) h k e = cc
+value-fixed Unknown Unknown h k e = refl
 
 pub trust-word-small : (t : Trust) → Sound t → trust_word t ≤ 2001
 trust-word-small (known n) h = omega arith

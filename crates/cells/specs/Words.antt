@@ -1,8 +1,7 @@
 -- From the code's enums to the definitions' data (`trust_in`, `cell_in`), and from words back to the data (`word_trust`, `word_cell`), for
 -- every word. The words themselves are defined in tsparql's Evaluate; laws on both ways are in proofs/WordLaws. Assumes nothing.
-use Rattle.std.specs.Prelude.{cond, ℕ, ◌-◌, ◌≤◌, ◌<◌, leb, ltb, eqb}
+use Rattle.std.specs.Prelude.{cond, ℕ, ◌+◌, ◌-◌, ◌≤◌, ◌<◌, min, leb, ltb, eqb, ℤ, pos, negsuc}
 use Rattle.tsparql.specs.Values as Values
-use Rattle.cells.specs.Shift.{shift}
 use Rattle.cells.specs.declared.Trust.{Trust}
 use Rattle.cells.specs.declared.Trust.TheVariants.{Known, Unknown}
 use Rattle.cells.specs.declared.Cell.{Cell}
@@ -10,9 +9,14 @@ use Rattle.cells.specs.declared.Cell.TheVariants.{Free, Term, Trusted}
 
 -- ---- the code's values
 
+-- a trust in thousandths, plus 1000; a number below -1000 counts as -1000, and one above 1000 as 1000
+abbrev pub shift : ℤ → ℕ
+shift (pos n) = min n 1000 + 1000
+shift (negsuc n) = 999 - n
+
 -- the trust that a value of the code stands for
 abbrev pub trust_in : Trust → Values.Trust
-trust_in (Known t) = Values.known (shift t.number)
+trust_in (Known z) = Values.known (shift z)
 trust_in Unknown = Values.unknown
 
 -- the cell that a value of the code stands for
@@ -20,6 +24,22 @@ abbrev pub cell_in : Cell → Values.Cell
 cell_in Free = Values.free
 cell_in (Term n) = Values.term n
 cell_in (Trusted t) = Values.trusted (trust_in t)
+
+-- a number in the range of trusts, from -1000 to 1000; there `shift` keeps numbers apart
+abbrev pub NumberInRange : ℤ → Type 0
+NumberInRange (pos n) = n ≤ 1000
+NumberInRange (negsuc n) = n ≤ 999
+
+-- a known trust is in range
+abbrev pub InRange : Trust → Type 0
+InRange (Known z) = NumberInRange z
+InRange Unknown = Unit {0}
+
+-- a cell's trust, if any, is in range
+abbrev pub CellInRange : Cell → Type 0
+CellInRange Free = Unit {0}
+CellInRange (Term n) = Unit {0}
+CellInRange (Trusted t) = InRange t
 
 -- ---- words
 
