@@ -9,8 +9,8 @@ use Rattle.grammar.specs.Tokens.{Token, is_word_number_or_variable}
 use Rattle.grammar.specs.Automaton.{Symbol, gap, fault, after, run}
 use Rattle.words.specs.Words.{token_word}
 use Rattle.lexer.specs.Symbols.{packed}
-use Rattle.lexer.specs.declared.Step.{Step}
-use Rattle.lexer.specs.declared.Step.TheVariants as S
+use Rattle.std.proofs.Common.{Ok, Err}
+use Rattle.lexer.specs.NextToken.{Step}
 use Rattle.lexer.specs.declared.Lexeme.{Lexeme}
 
 -- l is a token that the symbol X allows at `at`, and what has to come after it
@@ -30,5 +30,5 @@ pub record Took (s : List ℕ) (at : ℕ) (tight : Bool) (X : Symbol) (l : Lexem
 
 -- a token, or the place of the fault
 abbrev pub Advanced : List ℕ → ℕ → Bool → Symbol → Step → Type 0
-Advanced s at tight X (S.Token l) = Took s at tight X l
-Advanced s at tight X (S.Fault place) = (σ : List Symbol) → run (drop at s) at (gap tight (X ∷ σ)) ≡ fault place
+Advanced s at tight X (Ok l) = Took s at tight X l
+Advanced s at tight X (Err f) = (σ : List Symbol) → run (drop at s) at (gap tight (X ∷ σ)) ≡ fault f.0

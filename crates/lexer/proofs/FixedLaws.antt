@@ -18,16 +18,15 @@ use Rattle.grammar.proofs.Basics.{cond_cases}
 use Rattle.grammar.proofs.TableFacts.{fact_of, find-mem}
 use Rattle.scanner.specs.Scans.{common}
 use Rattle.scanner.specs.Fixed.{fixed_token, compared}
-use Rattle.scanner.specs.declared.Literal.{Literal}
-use Rattle.scanner.specs.declared.Literal.TheVariants as L
 use Rattle.scanner.proofs.RunLaws.{stop-at}
 use Rattle.scanner.proofs.CompareLaws.{common-within, Says, compared-says}
 use Rattle.scanner.proofs.FixedLaws.{literal-whole, literal-part}
 use Rattle.lexer.specs.Symbols.{packed}
 use Rattle.lexer.specs.Rules.{production_of, allows, follow_of}
 use Rattle.lexer.specs.NextToken.{word_token, word_at, when_allowed, word_apart, fixed_at}
-use Rattle.lexer.specs.declared.Step.{Step}
-use Rattle.lexer.specs.declared.Step.TheVariants as S
+use Rattle.std.proofs.Common.{Result, Ok, Err}
+use Rattle.refusals.specs.declared.Fault.{Fault}
+use Rattle.lexer.specs.NextToken.{Step}
 use Rattle.lexer.specs.declared.Lexeme.{Lexeme}
 use Rattle.lexer.proofs.Advances.{Took, Advanced}
 use Rattle.lexer.proofs.SymbolLaws.{entry-word, entry-few}
@@ -51,31 +50,22 @@ record Misspelled (s : List ℕ) (at reached : ℕ) : Type 0 where
 
 -- by the answer
 abbrev Spelling : List ℕ → ℕ → ℕ → Step → Type 0
-Spelling s at production (S.Token l) = Spelled s at production l
-Spelling s at production (S.Fault place) = Misspelled s at place
+Spelling s at production (Ok l) = Spelled s at production l
+Spelling s at production (Err f) = Misspelled s at f.0
 
--- the part of a text from a place on
-pub part-first : (s : List ℕ) (at : ℕ) → at < length s
-    → (0 < length (take (length s - at) (drop at s))) × (get_or (take (length s - at) (drop at s)) 0 0 ≡ get_or s at 0)
-part-first s at h = let e = part-drop s at ∙ drop-cons s at 0 h in (omega (arith, ap length e), ap (λ (l : List ℕ). get_or l 0 0) e)
-
-module _ (s : List ℕ) (at : ℕ) (k : Literal) (h : at < length s)
+module _ (s : List ℕ) (at : ℕ) (k : Result ℕ Fault) (h : at < length s)
     (e : k ≡ compared (fixed_token (get_or s at 0)) (take (length s - at) (drop at s))) where
-  says : (answer : Literal) → k ≡ answer → Says (fixed_token (get_or s at 0)) (drop at s) answer
+  says : (answer : Result ℕ Fault) → k ≡ answer → Says (fixed_token (get_or s at 0)) (drop at s) answer
   says answer q = compared-says (fixed_token (get_or s at 0)) (drop at s) k answer (rw part-drop at e) q
 
   inside : (n : ℕ) → n ≡ common (fixed_token (get_or s at 0)) (drop at s) → at + n ≤ length s
   inside n q = omega (arith, (common-within (fixed_token (get_or s at 0)) (drop at s)).1, length-drop at s)
 
-  pub whole-inside : (n : ℕ) → k ≡ L.Whole n → at + n ≤ length s
-  whole-inside n q = inside n (says (L.Whole n) q).0
+  pub whole-inside : (n : ℕ) → k ≡ Ok n → at + n ≤ length s
+  whole-inside n q = inside n (says (Ok n) q).0
 
-  pub part-inside : (n : ℕ) → k ≡ L.Part n → at + n ≤ length s
-  part-inside n q = inside n (says (L.Part n) q).0
-
-  -- the same of the whole text
-  pub word-token : (p : ℕ) (answer : Literal) → k ≡ answer → word_token (get_or s at 0) p at answer ≡ word_at p s at
-  word-token p answer q = ap (word_token (get_or s at 0) p at) (sym q ∙ rw part-drop at e)
+  pub part-inside : (f : Fault) → k ≡ Err f → at + f.0 ≤ length s
+  part-inside f q = inside f.0 (says (Err f) q).0
 
 word-says : (s : List ℕ) (at p : ℕ) → at < length s → Spelling s at p (word_at p s at)
 word-says s at p h = go (compared token (drop at s)) (compared-says token (drop at s) _ _ refl refl)
@@ -83,8 +73,8 @@ word-says s at p h = go (compared token (drop at s)) (compared-says token (drop 
     token : List ℕ
     token = fixed_token (get_or s at 0)
 
-    go : (k : Literal) → Says (fixed_token (get_or s at 0)) (drop at s) k → Spelling s at p (word_token (get_or s at 0) p at k)
-    go (L.Whole n) r =
+    go : (k : Result ℕ Fault) → Says (fixed_token (get_or s at 0)) (drop at s) k → Spelling s at p (word_token (get_or s at 0) p at k)
+    go (Ok n) r =
         record {
           whole = r.1;
           next = omega (arith, r.0, r.1);
@@ -93,7 +83,7 @@ word-says s at p h = go (compared token (drop at s)) (compared-says token (drop 
           ends = refl;
           pushes = refl;
         }
-    go (L.Part n) r = record { part = r.1; place = omega (arith, r.0) }
+    go (Err f) r = record { part = r.1; place = omega (arith, r.0) }
 
 -- ---- a fixed token by the entry of a symbol's table
 
@@ -148,8 +138,8 @@ module _ (s : List ℕ) (at : ℕ) (a : Bool) (X : Symbol) (h : at < length s) (
       ∙ ap fault (omega (arith, place, shares))
 
   fixed-spelled : (r : Step) → Spelling s at (packed entry.1) r → Advanced s at a X r
-  fixed-spelled (S.Token x) t = took-fixed x t
-  fixed-spelled (S.Fault q) t = fault-fixed q t
+  fixed-spelled (Ok x) t = took-fixed x t
+  fixed-spelled (Err f) t = fault-fixed f.0 t
 
 -- ---- by the table of the symbol
 

@@ -7,5 +7,4 @@ pub mod FirstByte
 pub mod NumberLaws
 pub mod FixedLaws
 pub mod NextLaws
-pub mod TokenLaws
 pub mod ScanLaws

@@ -15,8 +15,8 @@ use Rattle.scanner.specs.Scans.{skip_from}
 use Rattle.scanner.proofs.SpaceLaws.{Skipped, skip-says}
 use Rattle.scanner.proofs.RunLaws.{end-at}
 use Rattle.lexer.specs.NextToken.{token_at, next_token}
-use Rattle.lexer.specs.declared.Step.{Step}
-use Rattle.lexer.specs.declared.Step.TheVariants as S
+use Rattle.std.proofs.Common.{Ok, Err}
+use Rattle.lexer.specs.NextToken.{Step}
 use Rattle.lexer.proofs.Advances.{Advanced}
 use Rattle.lexer.proofs.NumberLaws.{variable-says, negative-says, positive-says}
 use Rattle.lexer.proofs.FixedLaws.{fixed-says}
@@ -37,7 +37,7 @@ token-says s at a X h space =
 -- and behind white space
 module _ (s : List ℕ) (at i : ℕ) (a : Bool) (X : Symbol) (k : Skipped s at i) where
   behind-space : (r : Step) → Advanced s i (a && eqb at i) X r → Advanced s at a X r
-  behind-space (S.Token l) t =
+  behind-space (Ok l) t =
       let g = k.forward in
       let f = t.forward in
       let few = t.few in
@@ -52,7 +52,7 @@ module _ (s : List ℕ) (at i : ℕ) (a : Bool) (X : Symbol) (k : Skipped s at i
         few = omega arith;
         runs = λ σ. k.runs a (X ∷ σ) ∙ t.runs σ;
       }
-  behind-space (S.Fault p) t = λ σ. k.runs a (X ∷ σ) ∙ t σ
+  behind-space (Err f) t = λ σ. k.runs a (X ∷ σ) ∙ t σ
 
 pub next-says : (s : List ℕ) (at : ℕ) (a : Bool) (X : Symbol) → at ≤ length s → Advanced s at a X (next_token X a s at)
 unfolding next_token

@@ -1,9 +1,9 @@
 -- Variables, terms and bounds: the automaton stands before a number, which is then a token (`took_number`), by the first byte (`..-says`).
 -- Assumes nothing.
-use mathlib.Core.Path.{◌≡◌, refl, sym, ap, ◌∙◌, subst}
+use mathlib.Core.Path.{◌≡◌, refl, ap, ◌∙◌, subst}
 use mathlib.Core.Bool.{Bool, true, false, ◌&&◌, not}
 use mathlib.Core.List.{List, [], ◌∷◌, ◌++◌}
-use mathlib.Core.Option.{Option, none, some}
+use mathlib.Core.Option as O
 use Prim.Native.Nat.{ℕ, ◌+◌, ◌≤◌, ◌<◌}
 use native.Mathlib.Omega.{arith}
 use lib.ListN.{length, drop, get_or}
@@ -12,8 +12,8 @@ use Rattle.grammar.specs.Automaton.{Symbol, vars, terms, is_bound, Kind, k_var, 
 use Rattle.grammar.proofs.Basics.{cond_cases}
 use Rattle.words.specs.Words.{token_word}
 use Rattle.scanner.specs.Scans.{numeral_from}
-use Rattle.scanner.specs.declared.Digits.{Digits}
-use Rattle.scanner.specs.declared.Digits.TheVariants as D
+use Rattle.std.proofs.Common.{Option, Some, None}
+use Rattle.scanner.specs.declared.Numeric.{Numeric}
 use Rattle.scanner.proofs.NumberLaws.{Begun, Valued, numeral-says}
 use Rattle.scanner.proofs.RunLaws.{move_at, same_at, stop-at}
 use Rattle.lexer.specs.Symbols.{digits, packed}
@@ -50,8 +50,10 @@ took_number s at from a X l u k p α h g q m e f =
     let d = numeral_from l u from (drop from s) in
     took d (numeral-says s from l u d g q refl)
   where
-    took : (d : Digits) → Begun s from l u d → Advanced s at a X (number_token (base k) p from d)
-    took (D.Value v next) b =
+    took : (d : Option Numeric) → Begun s from l u d → Advanced s at a X (number_token (base k) p from d)
+    took (Some n) b =
+        let v = n.value in
+        let next = n.next in
         let forward = b.forward in
         record {
           token = token_of k v;
@@ -66,7 +68,7 @@ took_number s at from a X l u k p α h g q m e f =
               m σ ∙ b.runs k (α ++ σ)
               ∙ ap (λ (z : Bool). after (token_of k v ∷ []) (run (drop next s) next (gap z (α ++ σ)))) (number-tight k v);
         }
-    took D.Missing b = λ σ. m σ ∙ b.runs k (α ++ σ)
+    took None b = λ σ. m σ ∙ b.runs k (α ++ σ)
 
 none-packed : 0 ≡ packed []
 unfolding digits
@@ -81,10 +83,10 @@ module _ (s : List ℕ) (at : ℕ) (a : Bool) (X : Symbol) (h : at < length s) w
   pub variable-says : byte ≡ 63 → Advanced s at a X (variable_at X s at)
   variable-says q = go (vars X) refl
     where
-      go : (o : Option (List Symbol)) → vars X ≡ o
+      go : (o : O.Option (List Symbol)) → vars X ≡ o
           → Advanced s at a X (when_allowed at (λ p. number_at 0 15 256 p s (at + 1)) (follow_of o))
-      go none e = λ σ. stop-at s at (gap a (X ∷ σ)) h (var-none a X σ byte q e)
-      go (some α) e =
+      go O.none e = λ σ. stop-at s at (gap a (X ∷ σ)) h (var-none a X σ byte q e)
+      go (O.some α) e =
           took_number s at (at + 1) a X 0 15 k_var (packed α) α (omega arith) (omega arith) (omega arith)
           (λ σ. move_at s at (gap a (X ∷ σ)) (first 0 15 k_var (α ++ σ)) h (var-some a X σ byte α q e)) refl (vars-few X α e)
 
@@ -100,10 +102,10 @@ module _ (s : List ℕ) (at : ℕ) (a : Bool) (X : Symbol) (h : at < length s) w
         → Advanced s at a X (when_allowed at (λ p. number_at 1 1048575 2097152 p s at) (follows X 48))
     term-says t b = go (terms X) refl
       where
-        go : (o : Option (List Symbol)) → terms X ≡ o
+        go : (o : O.Option (List Symbol)) → terms X ≡ o
             → Advanced s at a X (when_allowed at (λ p. number_at 1 1048575 2097152 p s at) (follow_of o))
-        go none e = λ σ. stop-at s at (gap a (X ∷ σ)) h (digit-none a X σ byte l m t b e)
-        go (some α) e =
+        go O.none e = λ σ. stop-at s at (gap a (X ∷ σ)) h (digit-none a X σ byte l m t b e)
+        go (O.some α) e =
             took_number s at at a X 1 1048575 k_num (packed α) α (omega arith) (omega arith) (omega arith)
             (λ σ. same_at s at (gap a (X ∷ σ)) (first 1 1048575 k_num (α ++ σ)) h (digit-term a X σ byte l m t α b e)) refl
             (terms-few X α e)
@@ -119,13 +121,8 @@ module _ (s : List ℕ) (at : ℕ) (a : Bool) (X : Symbol) (h : at < length s) w
 -- ---- the value
 
 pub numeral-most :
-    (s : List ℕ) (at l u : ℕ) (d : Digits) → at ≤ length s → 9 ≤ u → d ≡ numeral_from l u at (drop at s) → (v n : ℕ) → d ≡ D.Value v n
-    → v ≤ u
-numeral-most s at l u d h q e v n g =
-    let b : Valued s at l u v n = subst (Begun s at l u) g (numeral-says s at l u d h q e) in
+    (s : List ℕ) (at l u : ℕ) (d : Option Numeric) → at ≤ length s → 9 ≤ u → d ≡ numeral_from l u at (drop at s) → (n : Numeric) → d ≡ Some n
+    → n.value ≤ u
+numeral-most s at l u d h q e n g =
+    let b : Valued s at l u n.value n.next = subst (Begun s at l u) g (numeral-says s at l u d h q e) in
     b.most
-
-pub number-token :
-    (s : List ℕ) (at l u kind p : ℕ) (d a : Digits) → d ≡ numeral_from l u at (drop at s) → d ≡ a
-    → number_token kind p at a ≡ number_at l u kind p s at
-number-token s at l u kind p d a e q = ap (number_token kind p at) (sym q ∙ e)

@@ -4,56 +4,37 @@ use mathlib.Core.Path.{◌≡◌, refl, sym, ap, ◌∙◌}
 use mathlib.Core.Bool.{Bool, true, false, cond}
 use mathlib.Core.List.{List, [], ◌∷◌}
 use mathlib.Core.Option.{some}
-use Prim.Native.Nat.{ℕ, ◌+◌, ◌≤◌, ◌<◌}
-use native.Mathlib.Omega.{arith}
-use native.Mathlib.Numerals.{add-one}
+use Prim.Native.Nat.{ℕ}
 use lib.Dec.{eqb}
-use lib.ListN.{length, drop, get_or, drop_of_length-le}
-use lib.Seq.{drop-cons}
+use lib.ListN.{get_or}
 use borrow.Author.Tests.{eqb-true}
 use Rattle.tsparql.specs.Strikes.{ascii}
 use Rattle.grammar.specs.Automaton.{Symbol, Entry, marks, vars, terms, find}
 use Rattle.lexer.specs.Symbols.{code, digits, packed, Gives}
 use Rattle.lexer.specs.Rules.{covering, production_of, allows, follow_of, follows}
 use Rattle.lexer.specs.declared.Rule.{Rule}
-use Rattle.lexer.specs.declared.Follow.{Follow}
-use Rattle.lexer.specs.declared.Follow.TheVariants as F
+use Rattle.std.proofs.Common.{Option, Some, None}
+use Rattle.std.specs.List.{find as find_in}
+use Rattle.std.specs.Option.{option_map}
 use Rattle.lexer.proofs.SymbolLaws.{alike}
 
 -- ---- a search
 
 -- what the first rule for a symbol and a first byte says
-unfoldable pub lookup : List Rule → ℕ → ℕ → Follow
-lookup [] n b = F.Nothing
-lookup (u ∷ us) n b = cond (covering u n b) (F.With u.3) (lookup us n b)
+unfoldable pub lookup : List Rule → ℕ → ℕ → Option ℕ
+lookup [] n b = None
+lookup (u ∷ us) n b = cond (covering u n b) (Some u.3) (lookup us n b)
 
--- none of the first i rules is for them
-pub record Searched (us : List Rule) (n b i : ℕ) : Type 0 where
-  pub inside : i ≤ length us
-  pub so : lookup us n b ≡ lookup (drop i us) n b
-
-pub searched-none : (us : List Rule) (n b : ℕ) → Searched us n b 0
-searched-none us n b = record { inside = omega arith; so = refl }
-
-module _ (us : List Rule) (n b i : ℕ) where
-  pub searched-one : (d : Rule) → i < length us → covering (get_or us i d) n b ≡ false → Searched us n b i → Searched us n b (i + 1)
-  unfolding lookup
-  searched-one d h e r =
-      record {
-        inside = omega arith;
-        so =
-            r.so ∙ ap (λ (l : List Rule). lookup l n b) (drop-cons us i d h)
-            ∙ rw e (ap (λ (k : ℕ). lookup (drop k us) n b) (sym (add-one i)));
-      }
-
-  pub searched-hit : (d : Rule) → i < length us → covering (get_or us i d) n b ≡ true → Searched us n b i
-      → F.With (get_or us i d).3 ≡ lookup us n b
-  unfolding lookup
-  searched-hit d h e r = sym (r.so ∙ ap (λ (l : List Rule). lookup l n b) (drop-cons us i d h) ∙ rw e)
-
-  pub searched-all : length us ≤ i → Searched us n b i → F.Nothing ≡ lookup us n b
-  unfolding lookup
-  searched-all h r = sym (r.so ∙ ap (λ (l : List Rule). lookup l n b) (drop_of_length-le us h))
+-- it is the production of the first rule that covers them
+lookup-find : (us : List Rule) (n b : ℕ) → option_map (λ (r : Rule). r.3) (find_in (λ (r : Rule). covering r n b) us) ≡ lookup us n b
+unfolding lookup
+lookup-find [] n b = refl
+lookup-find (u ∷ us) n b = split (covering u n b) (lookup-find us n b)
+  where
+    split : (x : Bool) → option_map (λ (r : Rule). r.3) (find_in (λ (r : Rule). covering r n b) us) ≡ lookup us n b
+        → option_map (λ (r : Rule). r.3) (cond x (Some u) (find_in (λ (r : Rule). covering r n b) us)) ≡ cond x (Some u.3) (lookup us n b)
+    split true ih = refl
+    split false ih = ih
 
 -- ---- the table
 
@@ -101,9 +82,9 @@ unfolding rules rule lookup digits
 table-term = alike (λ X. lookup rules (code X) 48) (λ X. follow_of (terms X)) refl
 
 -- the fixed tokens among entries, by their first byte
-picked : ℕ → List Entry → Follow
-picked b [] = F.Nothing
-picked b (e ∷ es) = cond (eqb b (get_or e.0 0 0)) (F.With (packed e.1)) (picked b es)
+picked : ℕ → List Entry → Option ℕ
+picked b [] = None
+picked b (e ∷ es) = cond (eqb b (get_or e.0 0 0)) (Some (packed e.1)) (picked b es)
 
 picked-find : (b : ℕ) (es : List Entry) → picked b es ≡ follow_of (production_of (find b es))
 unfolding picked
@@ -111,7 +92,7 @@ picked-find b [] = refl
 picked-find b (e ∷ es) = split (eqb b (get_or e.0 0 0)) (picked-find b es)
   where
     split : (x : Bool) → picked b es ≡ follow_of (production_of (find b es))
-        → cond x (F.With (packed e.1)) (picked b es) ≡ follow_of (production_of (cond x (some e) (find b es)))
+        → cond x (Some (packed e.1)) (picked b es) ≡ follow_of (production_of (cond x (some e) (find b es)))
     split true ih = refl
     split false ih = ih
 
@@ -130,5 +111,6 @@ table-allows b X = query (eqb b 63) refl
     query true e = rw (eqb-true b 63 e) (table-var X)
     query false e = zero-digit (eqb b 48) refl e
 
-pub looked-up : (n b : ℕ) (r : Follow) → r ≡ lookup rules n b → Gives n (λ X. follows X b) r
-looked-up n b r e X q = e ∙ ap (λ (k : ℕ). lookup rules k b) q ∙ table-allows b X
+pub looked-up :
+    (n b : ℕ) (r : Option ℕ) → r ≡ option_map (λ (u : Rule). u.3) (find_in (λ (u : Rule). covering u n b) rules) → Gives n (λ X. follows X b) r
+looked-up n b r e X q = e ∙ lookup-find rules n b ∙ ap (λ (k : ℕ). lookup rules k b) q ∙ table-allows b X

@@ -18,13 +18,12 @@ use Rattle.scanner.proofs.RunLaws.{after_nothing, after-after, stop-at, end-at}
 use Rattle.lexer.specs.Symbols.{digits, Gives}
 use Rattle.lexer.specs.Stacks.{Stacked}
 use Rattle.lexer.specs.NextToken.{next_token}
-use Rattle.lexer.specs.Steps.{Pushes, fault_in, Scans}
+use Rattle.lexer.specs.Steps.{Pushes, Scans}
 use Rattle.lexer.proofs.Advances.{Took, Advanced}
 use Rattle.lexer.proofs.NextLaws.{next-says}
-use Rattle.lexer.specs.declared.Step.{Step}
-use Rattle.lexer.specs.declared.Step.TheVariants as S
-use Rattle.lexer.specs.declared.Scanned.{Scanned}
-use Rattle.lexer.specs.declared.Scanned.TheVariants as R
+use Rattle.std.proofs.Common.{Ok, Err}
+use Rattle.refusals.specs.declared.Fault.{Fault}
+use Rattle.lexer.specs.NextToken.{Step}
 use Rattle.lexer.specs.declared.Lexeme.{Lexeme}
 use Rattle.lexer.proofs.StackLaws.{Top, stacked-top, stacked-none}
 
@@ -84,12 +83,12 @@ module _ {s words₀ stack₀ words stack : List ℕ} {depth at : ℕ} {tight : 
         subst (Advanced s at tight X) (sym (a X top.byte) ∙ q) (next-says s at tight X c.inside)
 
     -- it goes forward
-    pub scanning-forward : (l : Lexeme) → r ≡ S.Token l → (at < l.next) × (l.next ≤ length s)
-    scanning-forward l q = let took : Took s at tight top.symbol l = advanced (S.Token l) q in (took.forward, took.inside)
+    pub scanning-forward : (l : Lexeme) → r ≡ Ok l → (at < l.next) × (l.next ≤ length s)
+    scanning-forward l q = let took : Took s at tight top.symbol l = advanced (Ok l) q in (took.forward, took.inside)
 
     -- a token, and its production pushed
     pub scanning-token :
-        (l : Lexeme) (stack' : List ℕ) (depth' : ℕ) → r ≡ S.Token l → length stack' ≡ length stack
+        (l : Lexeme) (stack' : List ℕ) (depth' : ℕ) → r ≡ Ok l → length stack' ≡ length stack
         → Pushes stack stack' (depth - 1) l.production depth'
         → Scanning s words₀ stack₀ (set words count l.word) stack' depth' l.next l.tight (count + 1)
     scanning-token l stack' depth' q e p =
@@ -99,7 +98,7 @@ module _ {s words₀ stack₀ words stack : List ℕ} {depth at : ℕ} {tight : 
         let wide = c.room_words in
         let few = c.few in
         let σ = top.below in
-        let took : Took s at tight top.symbol l = advanced (S.Token l) q in
+        let took : Took s at tight top.symbol l = advanced (Ok l) q in
         let α = took.production in
         let token = took.token in
         let forward = took.forward in
@@ -130,11 +129,10 @@ module _ {s words₀ stack₀ words stack : List ℕ} {depth at : ℕ} {tight : 
         }
 
     -- a fault of the step is one of the text
-    pub scanning-fault : (p : ℕ) (answer : Scanned) → r ≡ S.Fault p → answer ≡ fault_in r → Scans s words answer
-    scanning-fault p answer q e =
-        let stops : (σ : List Symbol) → run (drop at s) at (gap tight (top.symbol ∷ σ)) ≡ fault p = advanced (S.Fault p) q in
-        let place : read s ≡ fault p = onward (top.symbol ∷ top.below) (fault p) top.all (stops top.below) in
-        subst (Scans s words) (sym (e ∙ ap fault_in q)) place
+    pub scanning-fault : (f : Fault) → r ≡ Err f → read s ≡ fault f.0
+    scanning-fault f q =
+        let stops : (σ : List Symbol) → run (drop at s) at (gap tight (top.symbol ∷ σ)) ≡ fault f.0 = advanced (Err f) q in
+        onward (top.symbol ∷ top.below) (fault f.0) top.all (stops top.below)
 
   -- ---- behind the last token
 
@@ -145,7 +143,7 @@ module _ {s words₀ stack₀ words stack : List ℕ} {depth at : ℕ} {tight : 
     ends : (o : Outcome) → run (drop r s) r (gap (tight && eqb at r) []) ≡ o → read s ≡ after c.done o
     ends o e = onward [] o (stacked-none stack c.symbols (rw z at c.stacked)) (skipped.skipped.runs tight [] ∙ e)
 
-    pub scanning-all : length s ≤ r → Scans s words (R.Tokens count)
+    pub scanning-all : length s ≤ r → Scans s words (Ok count)
     scanning-all h =
         let e : read s ≡ accepted c.done =
         ends (accepted []) (end-at s r (gap (tight && eqb at r) []) h) ∙ ap accepted (append-nil c.done) in

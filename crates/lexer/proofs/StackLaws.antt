@@ -138,9 +138,3 @@ module _ {stack₀ stack : List ℕ} {depth production d p : ℕ} (w : Pushing s
       let l = w.left α σ e s h in
       let none = no-digits l.left (sym z ∙ l.number) in
       subst (Stacked stack d) (rw none at l.all) l.stacked
-
-  -- there is always room
-  pub pushing-full : (r : ℕ) → 0 < p → length stack ≤ d → Pushes stack₀ stack depth production r
-  pushing-full r g f α σ e s h =
-      let l = w.left α σ e s h in
-      absurd (omega (arith, l.room, ap length (lowest p l.left g l.number).is))

@@ -6,13 +6,13 @@ use mathlib.Core.List.{List, [], ◌∷◌, map, Memᴰ}
 use mathlib.Core.Option.{Option, none, some}
 use Prim.Native.Nat.{ℕ, ◌+◌, ◌*◌, ◌-◌, ◌≤◌}
 use native.Mathlib.Omega.{arith}
-use lib.Dec.{eqb, leb}
+use lib.Dec.{leb}
 use lib.ListN.{length, get_or}
 use borrow.Author.Tests.{leb-true}
 use Rattle.tsparql.specs.Strikes.{ascii}
 use Rattle.grammar.specs.Automaton.{Symbol, s_body, s_after_triple, s_after_element, s_after_group, s_slot, s_var, s_bound}
 use Rattle.grammar.specs.Automaton.{s_primary, s_negatable, s_relation, s_tail, s_lBrace, s_lParen, s_rParen, s_comma, s_aS, s_tRUST}
-use Rattle.grammar.specs.Automaton.{Entry, marks, vars, terms, is_bound}
+use Rattle.grammar.specs.Automaton.{Entry, marks, vars, terms}
 use Rattle.scanner.specs.Fixed.{fixed_token}
 use Rattle.lexer.specs.Symbols.{code}
 
@@ -53,9 +53,6 @@ code-digit X =
     let least = alike (λ Y. leb 1 (code Y)) (λ Y. true) refl X in
     let most = alike (λ Y. leb (code Y) 17) (λ Y. true) refl X in
     (leb-true 1 (code X) least, leb-true (code X) 17 most)
-
-pub bound-code : (X : Symbol) → is_bound X ≡ eqb (code X) 7
-bound-code = alike is_bound (λ X. eqb (code X) 7) refl
 
 -- ---- productions
 

@@ -1,14 +1,15 @@
 // The tokens of a query text, or the place of its fault: the automaton's stack is an array of bytes, and each turn reads one token.
 #![tactic(auto)]
 
-ghost use Rattle.std.specs.Prelude.{false, ◌&&◌, ◌≡◌, ◌+◌, ◌*◌, ◌≤◌, ◌<◌, length};
-ghost use Rattle.grammar.specs.Tokens.{is_capital};
+ghost use Rattle.std.specs.Prelude.{◌≡◌, ◌+◌, ◌*◌, ◌≤◌, ◌<◌, length};
+ghost use Rattle.std.specs.List.{find};
 ghost use Rattle.lexer.specs.Symbols.{Gives};
 ghost use Rattle.lexer.specs.Rules.{covering, follows};
-ghost use Rattle.lexer.specs.Steps.{Pushes, fault_in, Scans};
+ghost use Rattle.lexer.specs.Steps.{Pushes, Scans};
 ghost use Rattle.lexer.specs.NextToken.{number_at, word_at, variable_at, negative_at, positive_at, fixed_at, token_at, next_token};
 
-use scanner::{Digits, Literal, capital, fixed_token, numeral, skip};
+use refusals::Fault;
+use scanner::{fixed_token, numeral, skip};
 use words::{FIRST_NEGATIVE, FIRST_NUMBER, FIRST_VARIABLE};
 
 // ---- what may come
@@ -48,36 +49,36 @@ const AS: u8 = 16;
 
 const TRUST: u8 = 17;
 
-// A production is its symbols as digits to the base 32, the last one the lowest.
-// SLOT, SLOT, AFTER_TRIPLE
-const TRIPLE: u64 = 5282;
-// BODY, AFTER_GROUP
-const GROUP: u64 = 36;
-// LBRACE, BODY, AFTER_GROUP
-const ALTERNATIVE: u64 = 12324;
-// LBRACE, BODY, AFTER_ELEMENT
-const OPTION: u64 = 12323;
-// LPAREN, PRIMARY, TAIL, AFTER_ELEMENT
-const FILTER: u64 = 434531;
-// AS, VARIABLE, AFTER_ELEMENT
-const PROJECTION: u64 = 16579;
-// TRUST, LPAREN, BOUND, COMMA, BOUND, RPAREN, AFTER_ELEMENT
-const BOUNDS: u64 = 18697657795;
-// LPAREN, VARIABLE, RPAREN
-const IS_BOUND: u64 = 13518;
-// PRIMARY, TAIL
-const CONDITION: u64 = 267;
+// A production is one number: its symbols as digits to the base 32, the last one the lowest.
+macro_rules! production {
+    (@ $number:expr;) => { $number };
+    (@ $number:expr; $symbol:expr $(, $rest:expr)*) => { production!(@ $number * 32 + $symbol as u64; $($rest),*) };
+    ($($symbol:expr),+) => { production!(@ 0; $($symbol),+) };
+}
+
+const START: u64 = production!(LBRACE, BODY);
+
+const TRIPLE: u64 = production!(SLOT, SLOT, AFTER_TRIPLE);
+
+const GROUP: u64 = production!(BODY, AFTER_GROUP);
+
+const ALTERNATIVE: u64 = production!(LBRACE, BODY, AFTER_GROUP);
+
+const OPTION: u64 = production!(LBRACE, BODY, AFTER_ELEMENT);
+
+const FILTER: u64 = production!(LPAREN, PRIMARY, TAIL, AFTER_ELEMENT);
+
+const PROJECTION: u64 = production!(AS, VARIABLE, AFTER_ELEMENT);
+
+const BOUNDS: u64 = production!(TRUST, LPAREN, BOUND, COMMA, BOUND, RPAREN, AFTER_ELEMENT);
+
+const IS_BOUND: u64 = production!(LPAREN, VARIABLE, RPAREN);
+
+const CONDITION: u64 = production!(PRIMARY, TAIL);
 
 // The symbols from the first to the second allow a token that begins with the byte, and the production is what then has to come.
 #[derive(Clone, Copy)]
 struct Rule(u8, u8, u8, u64);
-
-// What then has to come, or that no rule is for them.
-#[derive(Clone, Copy)]
-enum Follow {
-    With(u64),
-    Nothing,
-}
 
 // A term is listed under the digit 0.
 const RULES: [Rule; 29] = [
@@ -112,43 +113,30 @@ const RULES: [Rule; 29] = [
     Rule(TRUST, TRUST, b'T', 0),
 ];
 
-// Whether the rule is for the symbol and the first byte.
-fn covers(rule: Rule, symbol: u8, first: u8) -> bool
-    ensures { result ≡ covering rule symbol first }
+impl Rule {
+    // Whether the rule is for the symbol and the first byte.
+    fn covers(self, symbol: u8, first: u8) -> bool
+        ensures { result ≡ covering self symbol first }
+    {
+        self.0 <= symbol && symbol <= self.1 && first == self.2
+    }
+}
+
+// The first rule for a symbol and a first byte.
+fn rule_for(rules: &[Rule], symbol: u8, first: u8) -> Option<Rule>
+    ensures { result ≡ find (λ r. covering r symbol first) rules.now }
 {
-    if symbol < rule.0 {
-        return false;
-    }
-    if rule.1 < symbol {
-        return false;
-    }
-    first == rule.2
+    rules
+        .iter()
+        .copied()
+        .find(|rule| rule.covers(symbol, first))
 }
 
 // What the symbol allows with this first byte.
-fn allowed(symbol: u8, first: u8) -> Follow
+fn allowed(symbol: u8, first: u8) -> Option<u64>
     ensures { Gives symbol (λ X. follows X first) result }
 {
-    let rules = RULES;
-    let mut i = 0;
-    while i < 29 {
-        let rule = rules[i];
-        if covers(rule, symbol, first) {
-            return Follow::With(rule.3);
-        }
-        i += 1;
-    }
-    Follow::Nothing
-}
-
-// A word may not follow a word, number or variable directly.
-fn clings(tight: bool, b: u8) -> bool
-    ensures { result ≡ (tight && is_capital b) }
-{
-    if tight {
-        return capital(b);
-    }
-    false
+    rule_for(&RULES, symbol, first).map(|rule| rule.3)
 }
 
 // ---- one token
@@ -162,154 +150,117 @@ pub struct Lexeme {
     pub production: u64,
 }
 
-// The next token, or the place of the fault.
-#[derive(Clone, Copy)]
-pub enum Step {
-    Token(Lexeme),
-    Fault(usize),
-}
-
-// How many tokens the text has, or the place of its fault.
-#[derive(Clone, Copy)]
-pub enum Scanned {
-    Tokens(usize),
-    Fault(usize),
-}
-
-// The production of a query: an opening brace, and a group's body.
-const START: u64 = 385;
-
 // A number from least to most as a token of the kind.
-fn numeric(s: &[u8], at: usize, least: u32, most: u32, kind: u32, production: u64) -> Step
+fn numeric(
+    s: &[u8],
+    at: usize,
+    least: u32,
+    most: u32,
+    kind: u32,
+    production: u64,
+) -> Result<Lexeme, Fault>
     requires { (at ≤ length s.now) × (least ≤ 1) × (9 ≤ most) × (most < 2000000) × (kind ≤ 4194304) }
     ensures { result ≡ number_at least most kind production s.now at }
 {
-    let d = numeral(s, at, least, most);
-    match d {
-        Digits::Value(value, next) => Step::Token(Lexeme {
-            word: kind + value,
-            next,
-            tight: true,
-            production,
-        }),
-        Digits::Missing => Step::Fault(at),
-    }
+    let number = numeral(s, at, least, most).ok_or(Fault(at))?;
+    Ok(Lexeme {
+        word: kind + number.value,
+        next: number.next,
+        tight: true,
+        production,
+    })
 }
 
 // A token that begins with a question mark.
-fn variable(s: &[u8], at: usize, symbol: u8) -> Step
+fn variable(s: &[u8], at: usize, symbol: u8) -> Result<Lexeme, Fault>
     requires { at < length s.now }
     ensures { Gives symbol (λ X. variable_at X s.now at) result }
 {
-    let f = allowed(symbol, b'?');
-    let Follow::With(p) = f else {
-        return Step::Fault(at);
-    };
-    numeric(s, at + 1, 0, 15, FIRST_VARIABLE, p)
+    let production = allowed(symbol, b'?').ok_or(Fault(at))?;
+    numeric(s, at + 1, 0, 15, FIRST_VARIABLE, production)
 }
 
 // A token that begins with a minus sign.
-fn negative(s: &[u8], at: usize, tight: bool, symbol: u8) -> Step
+fn negative(s: &[u8], at: usize, tight: bool, symbol: u8) -> Result<Lexeme, Fault>
     requires { at < length s.now }
     ensures { Gives symbol (λ X. negative_at X tight s.now at) result }
 {
-    if tight {
-        return Step::Fault(at);
-    }
-    if symbol != BOUND {
-        return Step::Fault(at);
+    if tight || symbol != BOUND {
+        return Err(Fault(at));
     }
     numeric(s, at + 1, 1, 1000, FIRST_NEGATIVE, 0)
 }
 
 // A token that begins with a digit.
-fn positive(s: &[u8], at: usize, tight: bool, symbol: u8) -> Step
+fn positive(s: &[u8], at: usize, tight: bool, symbol: u8) -> Result<Lexeme, Fault>
     requires { at < length s.now }
     ensures { Gives symbol (λ X. positive_at X tight s.now at) result }
 {
     if tight {
-        return Step::Fault(at);
+        return Err(Fault(at));
     }
     if symbol == BOUND {
         return numeric(s, at, 0, 1000, FIRST_NUMBER, 0);
     }
-    let f = allowed(symbol, b'0');
-    let Follow::With(p) = f else {
-        return Step::Fault(at);
-    };
-    numeric(s, at, 1, 1048575, FIRST_NUMBER, p)
+    let production = allowed(symbol, b'0').ok_or(Fault(at))?;
+    numeric(s, at, 1, 1048575, FIRST_NUMBER, production)
 }
 
 // A fixed token, by its first byte.
-fn spelled(s: &[u8], at: usize, production: u64) -> Step
+fn spelled(s: &[u8], at: usize, production: u64) -> Result<Lexeme, Fault>
     requires { at < length s.now }
     ensures { result ≡ word_at production s.now at }
 {
-    let b = s[at];
-    let word = b as u32;
-    let tight = capital(b);
-    let k = fixed_token(&s[at..], b);
-    match k {
-        Literal::Whole(n) => Step::Token(Lexeme {
-            word,
-            next: at + n,
-            tight,
+    let first = s[at];
+    match fixed_token(&s[at..], first) {
+        Ok(len) => Ok(Lexeme {
+            word: u32::from(first),
+            next: at + len,
+            tight: first.is_ascii_uppercase(),
             production,
         }),
-        Literal::Part(n) => Step::Fault(at + n),
+        Err(fault) => Err(fault.behind(at)),
     }
 }
 
-// A token that begins with any other byte.
-fn fixed(s: &[u8], at: usize, tight: bool, symbol: u8) -> Step
+// A token that begins with any other byte. A word may not follow a word, number or variable directly.
+fn fixed(s: &[u8], at: usize, tight: bool, symbol: u8) -> Result<Lexeme, Fault>
     requires { at < length s.now }
     ensures { Gives symbol (λ X. fixed_at X tight s.now at) result }
 {
-    let b = s[at];
-    let f = allowed(symbol, b);
-    let Follow::With(p) = f else {
-        return Step::Fault(at);
-    };
-    if clings(tight, b) {
-        return Step::Fault(at);
+    let first = s[at];
+    let production = allowed(symbol, first).ok_or(Fault(at))?;
+    if tight && first.is_ascii_uppercase() {
+        return Err(Fault(at));
     }
-    spelled(s, at, p)
+    spelled(s, at, production)
 }
 
 // The token whose first byte stands at a place.
-fn begin(s: &[u8], at: usize, tight: bool, symbol: u8) -> Step
+#[tactic(auto, unfolding(crate::specs::NextToken::token_at))]
+fn begin(s: &[u8], at: usize, tight: bool, symbol: u8) -> Result<Lexeme, Fault>
     requires { at < length s.now }
     ensures { Gives symbol (λ X. token_at X tight s.now at) result }
 {
-    let b = s[at];
-    if b == b'?' {
-        return variable(s, at, symbol);
+    match s[at] {
+        b'?' => variable(s, at, symbol),
+        b'-' => negative(s, at, tight, symbol),
+        b'0'..=b'9' => positive(s, at, tight, symbol),
+        _ => fixed(s, at, tight, symbol),
     }
-    if b == b'-' {
-        return negative(s, at, tight, symbol);
-    }
-    if b < b'0' {
-        return fixed(s, at, tight, symbol);
-    }
-    if b'9' < b {
-        return fixed(s, at, tight, symbol);
-    }
-    positive(s, at, tight, symbol)
 }
 
 // The next token, which the symbol on top allows.
-fn advance(s: &[u8], at: usize, tight: bool, symbol: u8) -> Step
+#[tactic(auto, unfolding(crate::specs::NextToken::next_token))]
+fn advance(s: &[u8], at: usize, tight: bool, symbol: u8) -> Result<Lexeme, Fault>
     requires { at ≤ length s.now }
     ensures { Gives symbol (λ X. next_token X tight s.now at) result }
 {
     let i = skip(s, at);
     if s.len() <= i {
-        return Step::Fault(i);
+        return Err(Fault(i));
     }
-    if i == at {
-        return begin(s, i, tight, symbol);
-    }
-    begin(s, i, false, symbol)
+    begin(s, i, tight && at == i, symbol)
 }
 
 // ---- the text
@@ -326,13 +277,13 @@ fn push(stack: &mut [u8], depth: usize, production: u64) -> usize
         }
         stack[d] = (p % 32) as u8;
         d += 1;
-        p = p / 32;
+        p /= 32;
     }
     d
 }
 
-// The tokens of a text as words, or the place of its fault.
-pub fn scan(s: &[u8], words: &mut [u32], stack: &mut [u8]) -> Scanned
+// The tokens of a text as words, and how many they are.
+pub fn scan(s: &[u8], words: &mut [u32], stack: &mut [u8]) -> Result<usize, Fault>
     requires { (length s.now ≤ length words.old) × (2 + 2 * length s.now ≤ length stack.old) }
     ensures { Scans s.now words.new result }
 {
@@ -341,30 +292,16 @@ pub fn scan(s: &[u8], words: &mut [u32], stack: &mut [u8]) -> Scanned
     let mut tight = false;
     let mut count = 0;
     while 0 < depth {
-        let symbol = stack[depth - 1];
-        let r = advance(s, at, tight, symbol);
-        let Step::Token(l) = r else {
-            return fault_of(r);
-        };
-        words[count] = l.word;
+        let token = advance(s, at, tight, stack[depth - 1])?;
+        words[count] = token.word;
         count += 1;
-        depth = push(stack, depth - 1, l.production);
-        tight = l.tight;
-        at = l.next;
+        depth = push(stack, depth - 1, token.production);
+        tight = token.tight;
+        at = token.next;
     }
-    let i = skip(s, at);
-    if i < s.len() {
-        return Scanned::Fault(i);
+    let end = skip(s, at);
+    if end < s.len() {
+        return Err(Fault(end));
     }
-    Scanned::Tokens(count)
-}
-
-// The fault of a step.
-fn fault_of(r: Step) -> Scanned
-    ensures { result ≡ fault_in r }
-{
-    match r {
-        Step::Token(l) => Scanned::Fault(l.next),
-        Step::Fault(p) => Scanned::Fault(p),
-    }
+    Ok(count)
 }

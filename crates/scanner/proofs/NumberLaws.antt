@@ -2,7 +2,6 @@
 -- `numeral-says`). Assumes nothing.
 use mathlib.Core.Path.{◌≡◌, refl, sym, ap, ◌∙◌, subst}
 use mathlib.Core.Bool.{Bool, true, false, cond, ◌&&◌}
-use mathlib.Core.Bool as B
 use mathlib.Core.List.{List, [], ◌∷◌}
 use Prim.Native.Nat.{ℕ, zero, suc, ◌+◌, ◌*◌, ◌-◌, ◌≤◌, ◌<◌}
 use native.Mathlib.Omega.{arith}
@@ -20,12 +19,6 @@ use Rattle.std.proofs.Common.{Option, Some, None}
 use Rattle.scanner.proofs.RunLaws.{moved-prepend, run_step, move_at, stop-at, end-at}
 
 -- ---- digits
-
-pub below-digits : (b : ℕ) → b < 48 → digit b ≡ false
-below-digits b h = rw (lt-leb 48 b h)
-
-pub above-digits : (b : ℕ) → 57 < b → digit b ≡ false
-above-digits b h = rw (lt-leb b 57 h, B.and-false (leb 48 b))
 
 digit-most : (b : ℕ) → digit b ≡ true → b ≤ 57
 digit-most b e = leb-true b 57 (and_right (leb 48 b) (leb b 57) e)

@@ -6,9 +6,9 @@ use Rattle.lexer.proofs.spelled.Goals as goal
 pub overflow_add-result : goal.overflow_add-result
 overflow_add-result c =
     let a = c.args in
-    omega (arith, whole-inside a.s.now a.at c.fixed_token-k.result c.requires c.fixed_token-k.ensures _ c.in-Whole.is)
+    omega (arith, whole-inside a.s.now a.at c.fixed_token.result c.requires c.fixed_token.ensures _ c.in-Ok.is)
 
-pub overflow_add-result-in-Part : goal.overflow_add-result-in-Part
-overflow_add-result-in-Part c =
+pub behind-requires : goal.behind-requires
+behind-requires c =
     let a = c.args in
-    omega (arith, part-inside a.s.now a.at c.fixed_token-k.result c.requires c.fixed_token-k.ensures _ c.in-Part.is)
+    omega (arith, part-inside a.s.now a.at c.fixed_token.result c.requires c.fixed_token.ensures _ c.in-Err.is)
