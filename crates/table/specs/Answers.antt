@@ -18,8 +18,8 @@ abbrev pub view_of : CodeView.View → View
 view_of v = record { records = v.records }
 
 -- the facts that a call sees of a table
-abbrev pub facts_of : Code.Table → List Fact
-facts_of t = facts_in (view_of t.view) t.bytes.now
+abbrev pub facts_seen : Code.Table → List Fact
+facts_seen t = facts_in (view_of t.view) t.bytes.now
 
 -- nothing of a table
 abbrev pub no_records : View
