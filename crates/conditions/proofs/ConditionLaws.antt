@@ -2,11 +2,10 @@
 -- head and its operands, in the order of the code: no operand, a fault of the first, one, a fault of the second, two.
 -- Assumes nothing.
 use mathlib.Core.Path.{◌≡◌, refl, sym, ap, subst, ◌∙◌}
-use mathlib.Core.Bool.{Bool, true, false, ◌&&◌, not, cond}
+use mathlib.Core.Bool.{Bool, true, false, ◌&&◌, cond}
 use mathlib.Core.List.{List}
 use Prim.Native.Nat.{ℕ, ◌+◌, ◌≤◌}
 use native.Mathlib.Omega.{arith}
-use borrow.Author.Tests.{ne_eqb, ltb-true}
 use lib.Dec.{eqb, leb, ltb}
 use lib.ListN.{length, get_or, drop}
 use Rattle.tsparql.specs.Values.{Cell}
@@ -14,21 +13,18 @@ use Rattle.tsparql.specs.Query.{Condition, bound, same, is_term, less, negation,
 use Rattle.tsparql.specs.Conditions as Conditions
 use Rattle.tsparql.specs.Conditions.{truth_on}
 use Rattle.tsparql.specs.Reading.{Read, got, fault, and_then, require, kind_of, low_of, bits24, term_sound, condition_step, read_condition}
-use Rattle.tsparql.specs.Check.{no_refusal}
-use Rattle.tsparql.proofs.ListLaws.{and_right, and_left}
 use Rattle.tsparql.proofs.ReaderSteps.{read_condition-step}
 use Rattle.tsparql.proofs.WrittenRead.{ReadsCondition, read_condition-sound}
 use Rattle.heads.specs.declared.ConditionHead.{ConditionHead}
 use Rattle.heads.specs.declared.ConditionHead.TheVariants as C
-use Rattle.heads.specs.Answers.{fault_in}
-use Rattle.query.specs.Answers.{fault_refusal}
 use Rattle.heads.specs.Parts.{pair_head, term_head, condition_head_read, condition_operands}
 use Rattle.query.specs.Parts.{map_read, follow}
 use Rattle.query.specs.Found.{IsGot}
 use Rattle.query.proofs.ReadLaws.{by_kind, no_kind, made_fault, made_by}
 use Rattle.conditions.specs.Truths.{truth_in, ConditionSound, found_condition, condition_of, HeadFormed, head_truth, Judges}
 use Rattle.conditions.specs.declared.Truth.{Truth}
-use Rattle.conditions.specs.declared.Judged.TheVariants as J
+use Rattle.std.specs.Prelude.{Ok, Err}
+use Rattle.refusals.specs.declared.Fault.{Fault}
 
 -- ---- a condition by its head
 
@@ -56,27 +52,21 @@ module _ (s : List ℕ) where
   pair-tree : (n : ℕ) (is_same : Bool) (f : ℕ → ℕ → Condition)
       → ((v w : ℕ) → tree_of (cond is_same (C.Same v w) (C.Less v w)) 2 ≡ got (f v w) 2)
       → require (leb 2 (length s) && ltb (get_or s 1 0) 16) (got (f n (get_or s 1 0)) 2) ≡ follow (pair_head s n is_same) tree_of
-  pair-tree n is_same f h = go (leb 2 (length s) && ltb (get_or s 1 0) 16) refl
+  pair-tree n is_same f h = go (leb 2 (length s) && ltb (get_or s 1 0) 16)
     where
-      go : (b : Bool) → leb 2 (length s) && ltb (get_or s 1 0) 16 ≡ b
+      go : (b : Bool)
           → require b (got (f n (get_or s 1 0)) 2)
-          ≡ follow (require (ltb (cond b (get_or s 1 0) 16) 16)
-          (got (cond is_same (C.Same n (cond b (get_or s 1 0) 16)) (C.Less n (cond b (get_or s 1 0) 16))) 2)) tree_of
-      go true e = rw (and_right (leb 2 (length s)) (ltb (get_or s 1 0) 16) e) (sym (h n (get_or s 1 0)))
-      go false e = refl
+          ≡ follow (require b (got (cond is_same (C.Same n (get_or s 1 0)) (C.Less n (get_or s 1 0))) 2)) tree_of
+      go true = sym (h n (get_or s 1 0))
+      go false = refl
 
   term-tree : (n : ℕ)
       → require (leb 4 (length s) && term_sound (bits24 s 1)) (got (is_term n (bits24 s 1)) 4) ≡ follow (term_head s n) tree_of
-  term-tree n = go (leb 4 (length s) && term_sound (bits24 s 1)) refl
+  term-tree n = go (leb 4 (length s) && term_sound (bits24 s 1))
     where
-      go : (b : Bool) → leb 4 (length s) && term_sound (bits24 s 1) ≡ b
-          → require b (got (is_term n (bits24 s 1)) 4)
-          ≡ follow (require (not (eqb (cond b (bits24 s 1) 0) 0)) (got (C.IsTerm n (cond b (bits24 s 1) 0)) 4)) tree_of
-      go true e =
-          let a = bits24 s 1 in
-          let t = and_left (ltb 0 a) (ltb a 1048576) (and_right (leb 4 (length s)) (term_sound a) e) in
-          rw (ne_eqb a 0 (λ z. omega (arith, ltb-true 0 a t)))
-      go false e = refl
+      go : (b : Bool) → require b (got (is_term n (bits24 s 1)) 4) ≡ follow (require b (got (C.IsTerm n (bits24 s 1)) 4)) tree_of
+      go true = refl
+      go false = refl
 
   -- a head that is there where n is 0
   plain-tree : (b : Bool) (h : ConditionHead) → require b (tree_of h 1) ≡ follow (require b (got h 1)) tree_of
@@ -138,10 +128,6 @@ module _ (s : List ℕ) where
   head-formed C.True own e = tt
 
 -- ---- its truth on a row's cells
-
--- a fault by its place
-pub fault-place : {A : Type 0} {r : Read A} {n p : ℕ} → r ≡ fault p → n ≡ fault_in r → r ≡ fault n
-fault-place e d = e ∙ ap fault (sym (d ∙ ap fault_in e))
 
 module _ (s : List ℕ) (cs : List Cell) where
   abbrev T : Condition → Conditions.Truth
@@ -234,27 +220,24 @@ module _ (s : List ℕ) (cs : List Cell) where
     two-judged C.Or k m t u e n f g = rw (tree-at s e) (two_made disjunction Conditions.or_truth (λ c d. refl) own k m t u f g)
     two-judged C.True k m t u e n f g = absurd (omega arith)
 
-  -- ---- the answer
+-- ---- the answer
 
-  pub judges-truth : (t : Truth) (u : Conditions.Truth) (n : ℕ) → truth_in t ≡ u → map_read T (read_condition s) ≡ got u n
-      → Judges s cs (J.Truth t n)
-  judges-truth t u n e d =
-      record {
-        found = rw e (sym d);
-        refusal = made_by T (λ r. no_refusal ≡ fault_refusal r) (read_condition s) u n d (λ _ _. refl);
-      }
+module _ {s : List ℕ} {cs : List Cell} where
+  pub judges-truth : {t : Truth} {n : ℕ} (u : Conditions.Truth) → truth_in t ≡ u → map_read (truth_on cs) (read_condition s) ≡ got u n
+      → Judges s cs (Ok (t, n))
+  judges-truth {n = n} u e d = record { found = ap (λ x. got x n) e ∙ sym d }
 
-  pub judges-refused : (p : ℕ) → read_condition s ≡ fault p → Judges s cs (J.Refused 6 p)
-  judges-refused p e = record { found = sym (rw e); refusal = sym (rw e) }
+  pub judges-fault : {f : Fault} {p : ℕ} → f.0 ≡ p → read_condition s ≡ fault p → Judges s cs (Err f)
+  judges-fault e d = record { found = ap fault e ∙ sym (rw d) }
 
 -- ---- what an answer tells its caller
 
 module _ {s : List ℕ} {cs : List Cell} where
   -- the truth is the condition's
-  pub judged-truth : {t : Truth} {n : ℕ} → Judges s cs (J.Truth t n) → truth_in t ≡ truth_on cs (condition_of s)
+  pub judged-truth : {t : Truth} {n : ℕ} → Judges s cs (Ok (t, n)) → truth_in t ≡ truth_on cs (condition_of s)
   judged-truth {t} {n} j =
       made_by (truth_on cs) (λ r. truth_in t ≡ truth_on cs (found_condition r)) (read_condition s) (truth_in t) n (sym j.found) (λ _ e. sym e)
 
-  -- a condition is not refused
-  pub judged-sound : {n p : ℕ} → ConditionSound s → Judges s cs (J.Refused n p) → ⊥
-  judged-sound {n} {p} h j = subst IsGot (made_fault (truth_on cs) (read_condition s) p (sym j.found)) h
+  -- a condition has no fault
+  pub judged-sound : {f : Fault} → ConditionSound s → Judges s cs (Err f) → ⊥
+  judged-sound {f} h j = subst IsGot (made_fault (truth_on cs) (read_condition s) f.0 (sym j.found)) h

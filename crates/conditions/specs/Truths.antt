@@ -1,23 +1,20 @@
 -- Truths, and conditions on a row, in the definitions' terms: the truth that a value of the code stands for, the condition that a part
 -- of a query starts with, the truth of a condition by its head and its operands' truths, and the answer of a condition on a row.
 -- Assumes nothing.
-use Rattle.std.specs.Prelude.{◌≡◌, List, ℕ}
+use Rattle.std.specs.Prelude.{◌≡◌, List, ℕ, Result, Ok, Err}
 use Rattle.tsparql.specs.Values.{Cell, term, cell_at}
 use Rattle.tsparql.specs.Query.{Condition, always}
 use Rattle.tsparql.specs.Conditions as Conditions
 use Rattle.tsparql.specs.Conditions.{not_truth, and_truth, or_truth, bound_truth, same_truth, less_truth, truth_on}
 use Rattle.tsparql.specs.Reading.{Read, got, fault, read_condition}
 use Rattle.tsparql.specs.WellFormed.{VariableFormed}
-use Rattle.tsparql.specs.Check.{Refusal, refuse, no_refusal}
 use Rattle.heads.specs.declared.ConditionHead.{ConditionHead}
 use Rattle.heads.specs.declared.ConditionHead.TheVariants as C
-use Rattle.query.specs.Answers.{fault_refusal}
 use Rattle.query.specs.Parts.{map_read}
 use Rattle.query.specs.Found.{IsGot}
 use Rattle.conditions.specs.declared.Truth.{Truth}
 use Rattle.conditions.specs.declared.Truth.TheVariants as T
-use Rattle.conditions.specs.declared.Judged.{Judged}
-use Rattle.conditions.specs.declared.Judged.TheVariants as J
+use Rattle.refusals.specs.declared.Fault.{Fault}
 
 -- the truth that a value of the code stands for
 abbrev pub truth_in : Truth → Conditions.Truth
@@ -67,16 +64,10 @@ head_truth cs C.True t u = Conditions.holds
 -- ---- the answer
 
 -- the truth and the next place, or the place of the fault
-abbrev pub judged_found : Judged → Read Conditions.Truth
-judged_found (J.Truth t n) = got (truth_in t) n
-judged_found (J.Refused n p) = fault p
+abbrev pub judged_found : Result (Truth × ℕ) Fault → Read Conditions.Truth
+judged_found (Ok x) = got (truth_in x.0) x.1
+judged_found (Err f) = fault f.0
 
--- the refusal that the answer names
-abbrev pub judged_refusal : Judged → Refusal
-judged_refusal (J.Truth t n) = no_refusal
-judged_refusal (J.Refused n p) = refuse n p
-
--- the answer is the truth of the part's condition on a row's cells, with the next place, or the refusal of its first fault
-pub record Judges (s : List ℕ) (cs : List Cell) (r : Judged) : Type 0 where
+-- the answer is the truth of the part's condition on a row's cells, with the next place, or its first fault
+pub record Judges (s : List ℕ) (cs : List Cell) (r : Result (Truth × ℕ) Fault) : Type 0 where
   pub found : judged_found r ≡ map_read (truth_on cs) (read_condition s)
-  pub refusal : judged_refusal r ≡ fault_refusal (read_condition s)
