@@ -3,11 +3,11 @@
 use mathlib.Core.Path.{◌≡◌, refl, sym, ap, ◌∙◌}
 use mathlib.Core.Bool.{Bool, true, false, cond}
 use mathlib.Core.List.{List, [], ◌∷◌, ◌++◌, append-nil}
-use Prim.Native.Nat.{ℕ, ◌+◌, ◌*◌, ◌≤◌}
+use Prim.Native.Nat.{ℕ, ◌+◌, ◌-◌, ◌*◌, ◌≤◌}
 use native.Mathlib.Omega.{arith}
-use borrow.Author.Tests.{le-leb}
+use borrow.Rule.Slice.PartMut.{put_mid}
 use lib.Dec.{ltb}
-use lib.ListN.{length, take, length-append}
+use lib.ListN.{length, take, drop, length-append}
 use lib.Seq.{take-take, take-append_seam}
 use Rattle.tsparql.specs.Query.{Node, pattern_set, join, left_join, union, filter, project_trust, ensure_trust}
 use Rattle.tsparql.specs.Push.{TrustBound, no_bound, between, push}
@@ -17,7 +17,8 @@ use Rattle.tsparql.specs.WellFormed.{Bytes}
 use Rattle.tsparql.proofs.WrittenRead.{ReadsNode, read_node-sound}
 use Rattle.heads.specs.declared.Head.{Head}
 use Rattle.heads.specs.declared.Head.TheVariants as H
-use Rattle.encoding.specs.Writers.{bounds_bytes, Wrote, WroteIfFits}
+use Rattle.encoding.specs.Writers.{Wrote}
+use Rattle.encoding.proofs.WriterLaws.{wrote-behind}
 use Rattle.query.specs.Answers.{node_head}
 use Rattle.query.specs.Found.{NodeSound, node_of}
 use Rattle.query.proofs.Forest.{operands_in, operands_at}
@@ -140,20 +141,17 @@ own-size h b w = go (stays h) (wrapped h b) refl
     go true false e = refl
     go false v e = refl
 
-module _ (h : Head) (b : TrustBound) where
-  pub own-wrapped : (w : List ℕ) → stays h ≡ true → wrapped h b ≡ true → own_push h b w ≡ wrap_bytes b ++ w
-  unfolding own_push
-  own-wrapped w d e = rw (d, e)
+-- where the node goes, nothing
+pub own-gone : (h : Head) (b : TrustBound) (w out : List ℕ) → stays h ≡ false → Wrote (own_push h b w) out out 0
+unfolding own_push
+own-gone h b w out d = rw d (record { size = refl; bytes = refl })
 
-  pub own_bare : (w : List ℕ) → stays h ≡ true → wrapped h b ≡ false → own_push h b w ≡ w
-  unfolding own_push
-  own_bare w d e = rw (d, e)
-
-  pub own-gone : (w : List ℕ) → stays h ≡ false → own_push h b w ≡ []
-  unfolding own_push
-  own-gone w d = rw d
-
--- the bounds are in range, and the output is long enough
-pub wrap-wrote : (l u : ℕ) (out out' : List ℕ) (r : ℕ) → l ≤ 2000 → u ≤ 2000 → 4 ≤ length out
-    → WroteIfFits (bounds_bytes l u) out out' r → Wrote (wrap_bytes (between l u)) out out' r
-wrap-wrote l u out out' r i j long w = rw (le-leb l 2000 i, le-leb u 2000 j, le-leb 4 (length out) long) at w
+-- else the wrap, where it is wrapped, and the rest behind it
+pub wrote-own : (h : Head) (b : TrustBound) (w out out₁ part : List ℕ) (at r : ℕ) → stays h ≡ true → own_size h b (length w) ≤ length out
+    → Wrote (cond (wrapped h b) (wrap_bytes b) []) out out₁ at → Wrote w (take (length out₁ - at) (drop at out₁)) part r
+    → Wrote (own_push h b w) out (put_mid at (length out₁ - at) out₁ part) (at + r)
+unfolding own_push
+wrote-own h b w out out₁ part at r kept room wrap copied =
+    let wrapping = cond (wrapped h b) (wrap_bytes b) [] in
+    let size : length (wrapping ++ w) ≤ length out = rw (← own-size h b w, kept) at room in
+    rw kept (wrote-behind wrapping w out out₁ part at r wrap (omega (arith, size, length-append wrapping w)) copied)

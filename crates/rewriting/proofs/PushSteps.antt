@@ -6,27 +6,21 @@ use Prim.Native.Nat.{ℕ, zero, suc, ◌+◌, ◌-◌, ◌*◌, ◌≤◌, ◌<�
 use native.Mathlib.Omega.{arith}
 use lib.ListN.{length, take, drop, length-append, length-drop}
 use lib.Seq.{length-take-le}
+use Rattle.std.proofs.lemmas.List.{take_rest}
 use Rattle.tsparql.specs.Push.{TrustBound, push}
 use Rattle.tsparql.specs.Writing.{node_bytes, node_size}
-use Rattle.tsparql.specs.Reading.{Read, got}
 use Rattle.tsparql.specs.WellFormed.{Bytes}
 use Rattle.tsparql.specs.Rewrite.{rewrite_limit}
 use Rattle.tsparql.proofs.PushQuery.{push-size-≤}
 use Rattle.heads.specs.declared.Head.{Head}
 use Rattle.heads.specs.Parts.{node_operands}
 use Rattle.query.specs.Found.{NodeSound, node_of}
-use Rattle.query.proofs.ReadLaws.{part-drop, fault-not-got}
 use Rattle.query.proofs.Forest.{operands_in}
 use Rattle.query.proofs.Operands.{Own, TwoOperands, operands-few, no_operand, one-operand, two_operands, second-operand}
-use Rattle.rewriting.specs.declared.Pushed.{Pushed}
-use Rattle.rewriting.specs.declared.Pushed.TheVariants as P
 use Rattle.bounds.specs.Bounds.{first_bound, second_bound, own_push, own_size}
-use Rattle.rewriting.specs.Answers.{pushed_in}
+use Rattle.tsparql.specs.Reading.{Read, got}
+use Rattle.rewriting.specs.Answers.{pushed}
 use Rattle.rewriting.proofs.PushParts.{own_bytes, all_bytes, pushes_of, own-bytes, own-length, push-bytes, own-size}
-
--- a size and a place
-pub got-is : {a b c d : ℕ} → a ≡ c → b ≡ d → ◌≡◌ {A = Read ℕ} (got a b) (got c d)
-got-is e f = cc
 
 -- ---- the part of an operand
 
@@ -35,21 +29,17 @@ pub part-ready : (s : List ℕ) (k : ℕ) → NodeSound (drop k s) → 1 ≤ k �
     → let part : List ℕ = take (length s - k) (drop k s) in
     (length part < length s) × NodeSound part × (length part ≤ rewrite_limit)
 part-ready s k sound some inside short =
-    rw (part-drop s k) (omega (arith, length-drop k s), sound, omega (arith, length-drop k s))
+    rw take_rest (omega (arith, length-drop k s), sound, omega (arith, length-drop k s))
 
-module _ (s : List ℕ) (k : ℕ) (b d : TrustBound) (r : Pushed) (same : d ≡ b)
-    (found : let part : List ℕ = take (length s - k) (drop k s) in
-    pushed_in r ≡ got (node_size (push d (node_of part))) (node_size (node_of part))) where
-  found_part : pushed_in r ≡ got (node_size (push b (node_of (drop k s)))) (node_size (node_of (drop k s)))
-  found_part = rw (part-drop s k, same) at found
+-- a size and a place
+pub got-is : {a b c d : ℕ} → a ≡ c → b ≡ d → ◌≡◌ {A = Read ℕ} (got a b) (got c d)
+got-is e f = cc
 
-  -- what was answered for it
-  pub answered-part : {size next : ℕ} → r ≡ P.Node size next
-      → (size ≡ node_size (push b (node_of (drop k s)))) × (next ≡ node_size (node_of (drop k s)))
-  answered-part e = let is = sym (ap pushed_in e) ∙ found_part in (cc, cc)
-
-  pub never-refused : {n p : ℕ} → r ≡ P.Refused n p → ⊥
-  never-refused e = fault-not-got (sym (ap pushed_in e) ∙ found_part)
+-- what was answered for it
+pub answered-part : (s : List ℕ) (k : ℕ) (b d : TrustBound) {size next : ℕ} → d ≡ b
+    → got size next ≡ pushed (take (length s - k) (drop k s)) d
+    → (size ≡ node_size (push b (node_of (drop k s)))) × (next ≡ node_size (node_of (drop k s)))
+answered-part s k b d same found = let is = rw (take_rest, same) at found in (cc, cc)
 
 -- ---- the push put together
 
@@ -146,23 +136,26 @@ module _ {s : List ℕ} {h : Head} {k : ℕ} (o : Own s h k) (b : TrustBound) wh
 
 -- ---- the operands' answers
 
--- what the first operand's size and next place are, and that its part and its push are inside the node's
+-- the first operand: its size and next place, and that its part and its push are inside the node's
 pub record FirstSized (s : List ℕ) (h : Head) (k : ℕ) (b : TrustBound) (left next : ℕ) : Type 0 where
+  pub own : Own s h k
+  pub some : node_operands h ≡ 0 → ⊥
   pub left_is : left ≡ node_size (push (first_bound h b) (node_of (drop k s)))
   pub next-is : next ≡ node_size (node_of (drop k s))
   pub place : k + next ≤ length s
   pub inside : own_size h b k + left ≤ node_size (push b (node_of s))
   pub small : own_size h b k + left ≤ 5 * length s
 
-pub first-sized : {s : List ℕ} {h : Head} {k : ℕ} (o : Own s h k) (b d : TrustBound) (r : Pushed) (left next : ℕ)
-    → (node_operands h ≡ 0 → ⊥) → d ≡ first_bound h b
-    → (let part : List ℕ = take (length s - k) (drop k s) in
-    pushed_in r ≡ got (node_size (push d (node_of part))) (node_size (node_of part)))
-    → r ≡ P.Node left next → FirstSized s h k b left next
-first-sized {s} {h} {k} o b d r left next some same found e =
-    let a = answered-part s k (first_bound h b) d r same found e in
+pub first-sized : {s : List ℕ} {h : Head} {k : ℕ} (o : Own s h k) (b : TrustBound) {n : ℕ} {d : TrustBound} {left next : ℕ}
+    → n ≡ node_operands h → (n ≡ 0 → ⊥) → d ≡ first_bound h b
+    → got left next ≡ pushed (take (length s - k) (drop k s)) d → FirstSized s h k b left next
+first-sized {s} {h} {k} o b {n} {d} count is_some same found =
+    let some = rw count at is_some in
+    let a = answered-part s k (first_bound h b) d same found in
     let inside = first-inside o b some in
     record {
+      own = o;
+      some = some;
       left_is = a.0;
       next-is = a.1;
       place = omega (arith, a.1, inside.0);
@@ -170,24 +163,34 @@ first-sized {s} {h} {k} o b d r left next some same found e =
       small = omega (arith, a.0, inside.1, push-inside o b);
     }
 
--- the second operand behind the first
-pub two-behind : {s : List ℕ} {h : Head} {k : ℕ} (o : Own s h k) {b : TrustBound} {left next : ℕ} → FirstSized s h k b left next
-    → (node_operands h ≡ 0 → ⊥) → (node_operands h ≡ 1 → ⊥) → TwoOperands s k next
-two-behind {s} {h} {k} o f some more = subst (TwoOperands s k) (sym f.next-is) (second-operand o some more)
+-- no operand, and one: all of the push, and the end of the node
+module _ {s : List ℕ} {h : Head} {k : ℕ} (b : TrustBound) {own n : ℕ} (size : own ≡ own_size h b k) (count : n ≡ node_operands h) where
+  pub none-sized : Own s h k → n ≡ 0 → got own k ≡ pushed s b
+  none-sized o e =
+      let none : node_operands h ≡ 0 = omega (arith, count) in
+      got-is (size ∙ sym (size_none o b none)) (sym (no_operand o none).1)
 
--- all of the push, and the end of the node
+  pub one-sized : {left next : ℕ} → FirstSized s h k b left next → n ≡ 1 → got (own + left) (k + next) ≡ pushed s b
+  one-sized f e =
+      let one : node_operands h ≡ 1 = omega (arith, count) in
+      got-is (omega (arith, f.left_is, size, size-one f.own b one)) (omega (arith, f.next-is, (one-operand f.own one).size))
+
+-- the second behind the first: all of the push, and the end of the node
 pub record SecondSized (s : List ℕ) (h : Head) (k : ℕ) (b : TrustBound) (left next right last : ℕ) : Type 0 where
   pub total : own_size h b k + left + right ≡ node_size (push b (node_of s))
   pub place : k + next + last ≡ node_size (node_of s)
 
-pub second-sized : {s : List ℕ} {h : Head} {k : ℕ} (o : Own s h k) (b d : TrustBound) (r : Pushed) {left next : ℕ} (right last : ℕ)
-    → FirstSized s h k b left next → TwoOperands s k next → d ≡ second_bound h b
-    → (let part : List ℕ = take (length s - (k + next)) (drop (k + next) s) in
-    pushed_in r ≡ got (node_size (push d (node_of part))) (node_size (node_of part)))
-    → r ≡ P.Node right last → SecondSized s h k b left next right last
-second-sized {s} {h} {k} o b d r {left} {next} right last f two same found e =
-    let a = answered-part s (k + next) (second_bound h b) d r same found e in
-    record {
-      total = omega (arith, a.0, f.left_is, size-two o b next two);
-      place = omega (arith, a.1, two.size);
-    }
+module _ {s : List ℕ} {h : Head} {k : ℕ} {b : TrustBound} {left next : ℕ} (f : FirstSized s h k b left next)
+    {n : ℕ} (count : n ≡ node_operands h) (more : n ≡ 1 → ⊥) where
+  pub two-behind : TwoOperands s k next
+  two-behind = subst (TwoOperands s k) (sym f.next-is) (second-operand f.own f.some (rw count at more))
+
+  pub second-sized : {d : TrustBound} {right last : ℕ} → d ≡ second_bound h b
+      → got right last ≡ pushed (take (length s - (k + next)) (drop (k + next) s)) d
+      → SecondSized s h k b left next right last
+  second-sized {d} same found =
+      let a = answered-part s (k + next) (second_bound h b) d same found in
+      record {
+        total = omega (arith, a.0, f.left_is, size-two f.own b next two-behind);
+        place = omega (arith, a.1, two-behind.size);
+      }

@@ -16,16 +16,15 @@ use Rattle.heads.specs.declared.Head.{Head}
 use Rattle.query.specs.Answers.{node_head}
 use Rattle.query.specs.Found.{NodeSound, node_of}
 use Rattle.encoding.specs.Writers.{Wrote}
-use Rattle.query.proofs.ReadLaws.{part-drop}
+use Rattle.std.specs.Prelude.{Ok}
+use Rattle.std.proofs.lemmas.List.{take_rest}
 use Rattle.heads.specs.Parts.{node_operands}
-use Rattle.query.proofs.Operands.{Own, TwoOperands, first-sound}
+use Rattle.query.proofs.Operands.{Own, first-sound}
 use Rattle.encoding.proofs.WriterLaws.{wrote-long, wrote-behind}
-use Rattle.rewriting.specs.declared.Pushed.{Pushed}
-use Rattle.rewriting.specs.declared.Pushed.TheVariants as P
 use Rattle.bounds.specs.Bounds.{first_bound, second_bound, own_push, own_size}
 use Rattle.rewriting.specs.Answers.{Pushable, Pushes}
-use Rattle.rewriting.proofs.PushSteps.{got-is, part-ready, answered-part, own-inside, own-taken, first-inside, size-two, pushed-two}
-use Rattle.rewriting.proofs.PushSteps.{FirstSized, first-sized, second-sized}
+use Rattle.rewriting.proofs.PushSteps.{part-ready, answered-part, own-inside, own-taken, first-inside, size-two, pushed-two}
+use Rattle.rewriting.proofs.PushSteps.{FirstSized, first-sized, two-behind, second-sized}
 
 -- ---- bounds in range
 
@@ -58,26 +57,27 @@ operand-ready s k d b out₁ at sound some inside short same formed room =
         sound = r.1;
         short = r.2;
         formed = rw same formed;
-        fits = rw (part-drop s k, part-drop out₁ at, same, length-drop at out₁) (omega arith);
+        fits = rw (take_rest s k, take_rest out₁ at, same, length-drop at out₁) (omega arith);
       },
     )
 
 -- its push behind what was written before
-pub push-behind : (w out out₁ part : List ℕ) (at : ℕ) (s : List ℕ) (k : ℕ) (b d : TrustBound) (r : Pushed) {size next : ℕ}
+pub push-behind : (w out out₁ part : List ℕ) (at : ℕ) (s : List ℕ) (k : ℕ) (b d : TrustBound) {size next : ℕ}
     → Wrote w out out₁ at → length w ≤ length out → d ≡ b
-    → Pushes (take (length s - k) (drop k s)) d (take (length out₁ - at) (drop at out₁)) part r → r ≡ P.Node size next
+    → Pushes (take (length s - k) (drop k s)) d (take (length out₁ - at) (drop at out₁)) part (Ok (size, next))
     → Wrote (w ++ node_bytes (push b (node_of (drop k s)))) out (put_mid at (length out₁ - at) out₁ part) (at + size)
-push-behind w out out₁ part at s k b d r first fits same pushes e =
-    let size = (answered-part s k b d r same pushes.found e).0 in
+push-behind w out out₁ part at s k b d first fits same pushes =
+    let size = (answered-part s k b d same pushes.is).0 in
     let wrote : Wrote (node_bytes (push b (node_of (drop k s)))) (take (length out₁ - at) (drop at out₁)) part
-    (node_size (push b (node_of (drop k s)))) = rw (part-drop s k, same) at pushes.wrote in
+    (node_size (push b (node_of (drop k s)))) = rw (take_rest s k, same) at pushes.wrote in
     wrote-behind w (node_bytes (push b (node_of (drop k s)))) out out₁ part at _ first fits (rw size wrote)
 
 -- all of a node's push
-pub pushes_all : (s : List ℕ) (b : TrustBound) (w out out' : List ℕ) (n next : ℕ) → node_bytes (push b (node_of s)) ≡ w → Wrote w out out' n
-    → next ≡ node_size (node_of s) → Pushes s b out out' (P.Node n next)
-pushes_all s b w out out' n next e wrote end =
-    record { found = got-is (wrote.size ∙ ap length (sym e)) end; wrote = rw e (record { size = refl; bytes = wrote.bytes }) }
+pub pushes_all : (s : List ℕ) (b : TrustBound) (w out out' : List ℕ) {n next : ℕ} → node_bytes (push b (node_of s)) ≡ w → Wrote w out out' n
+    → next ≡ node_size (node_of s) → Pushes s b out out' (Ok (n, next))
+pushes_all s b w out out' {n} {next} e wrote end =
+    let size : n ≡ node_size (push b (node_of s)) = wrote.size ∙ ap length (sym e) in
+    record { is = cc; wrote = rw e (record { size = refl; bytes = wrote.bytes }) }
 
 -- ---- a node's own part
 
@@ -100,10 +100,13 @@ own-written {s} {h} {k} o b out out₁ own room w =
 
 -- what its part and the rest of the output are ready for
 pub first-ready : {s : List ℕ} {h : Head} {k : ℕ} (o : Own s h k) (b d : TrustBound) (out out₁ : List ℕ) (own : ℕ)
-    → Pushable s b (length out) → (node_operands h ≡ 0 → ⊥) → d ≡ first_bound h b → OwnWritten s h k b out out₁ own
+    → Pushable s b (length out) → {n : ℕ} → n ≡ node_operands h → (n ≡ 0 → ⊥) → d ≡ first_bound h b
+    → Wrote (own_push h b (take k s)) out out₁ own
     → (length (take (length s - k) (drop k s)) < length s)
     × Pushable (take (length s - k) (drop k s)) d (length (take (length out₁ - own) (drop own out₁)))
-first-ready {s} {h} {k} o b d out out₁ own pre some same w =
+first-ready {s} {h} {k} o b d out out₁ own pre count is_some same wrote =
+    let some = rw count at is_some in
+    let w = own-written o b out out₁ own pre.fits wrote in
     operand-ready s k d (first_bound h b) out₁ own (first-sound o some) o.some o.inside pre.short same
     (operands-formed o b pre.formed).0 (omega (arith, w.long, w.size, (first-inside o b some).1, pre.fits))
 
@@ -115,15 +118,14 @@ pub record FirstWritten (s : List ℕ) (h : Head) (k : ℕ) (b : TrustBound) (ou
   pub long : length out₂ ≡ length out
   pub inside : own + left ≤ length out₂
 
-pub first-written : {s : List ℕ} {h : Head} {k : ℕ} (o : Own s h k) (b d : TrustBound) (out out₁ part : List ℕ) (own : ℕ) (r : Pushed)
-    (left next : ℕ) → Pushable s b (length out) → Wrote (own_push h b (take k s)) out out₁ own → (node_operands h ≡ 0 → ⊥)
-    → d ≡ first_bound h b → Pushes (take (length s - k) (drop k s)) d (take (length out₁ - own) (drop own out₁)) part r
-    → r ≡ P.Node left next → FirstWritten s h k b out (put_mid own (length out₁ - own) out₁ part) own left next
-first-written {s} {h} {k} o b d out out₁ part own r left next pre w some same pushes e =
-    let x = first-sized o b d r left next some same pushes.found e in
+pub first-written : {s : List ℕ} {h : Head} {k : ℕ} (o : Own s h k) (b d : TrustBound) (out out₁ part : List ℕ) (own : ℕ) {left next : ℕ}
+    → Pushable s b (length out) → Wrote (own_push h b (take k s)) out out₁ own → {n : ℕ} → n ≡ node_operands h → (n ≡ 0 → ⊥)
+    → d ≡ first_bound h b → Pushes (take (length s - k) (drop k s)) d (take (length out₁ - own) (drop own out₁)) part (Ok (left, next))
+    → FirstWritten s h k b out (put_mid own (length out₁ - own) out₁ part) own left next
+first-written {s} {h} {k} o b d out out₁ part own {left} pre w count some same pushes =
+    let x = first-sized o b count some same pushes.is in
     let mine = own-written o b out out₁ own pre.fits w in
-    let wrote =
-    push-behind (own_push h b (take k s)) out out₁ part own s k (first_bound h b) d r w mine.fits same pushes e in
+    let wrote = push-behind (own_push h b (take k s)) out out₁ part own s k (first_bound h b) d w mine.fits same pushes in
     let first = node_bytes (push (first_bound h b) (node_of (drop k s))) in
     let fits : length (own_push h b (take k s) ++ first) ≤ length out =
     omega (arith, length-append (own_push h b (take k s)) first, own-taken o b, x.inside, x.left_is, pre.fits) in
@@ -132,30 +134,32 @@ first-written {s} {h} {k} o b d out out₁ part own r left next pre w some same 
 
 -- ---- the second operand
 
--- what its part and the rest of the output are ready for
-pub second-ready : {s : List ℕ} {h : Head} {k : ℕ} (o : Own s h k) (b d : TrustBound) (out out₂ : List ℕ) (own left next : ℕ)
-    → Pushable s b (length out) → own ≡ own_size h b k → FirstWritten s h k b out out₂ own left next → TwoOperands s k next
-    → d ≡ second_bound h b
-    → (length (take (length s - (k + next)) (drop (k + next) s)) < length s)
-    × Pushable (take (length s - (k + next)) (drop (k + next) s)) d (length (take (length out₂ - (own + left)) (drop (own + left) out₂)))
-second-ready {s} {h} {k} o b d out out₂ own left next pre size f two same =
-    operand-ready s (k + next) d (second_bound h b) out₂ (own + left) two.right-sound (omega (arith, o.some)) f.sized.place pre.short
-    same (operands-formed o b pre.formed).1
-    (omega (arith, f.long, size, f.sized.left_is, size-two o b next two, pre.fits))
+module _ {s : List ℕ} {h : Head} {k : ℕ} {b : TrustBound} {out out₂ : List ℕ} {own left next : ℕ} (pre : Pushable s b (length out))
+    (f : FirstWritten s h k b out out₂ own left next) {n : ℕ} (count : n ≡ node_operands h) (more : n ≡ 1 → ⊥) {d : TrustBound}
+    (same : d ≡ second_bound h b) where
+  -- what its part and the rest of the output are ready for
+  pub second-ready : own ≡ own_size h b k
+      → (length (take (length s - (k + next)) (drop (k + next) s)) < length s)
+      × Pushable (take (length s - (k + next)) (drop (k + next) s)) d (length (take (length out₂ - (own + left)) (drop (own + left) out₂)))
+  second-ready size =
+      let o = f.sized.own in
+      let two = two-behind f.sized count more in
+      operand-ready s (k + next) d (second_bound h b) out₂ (own + left) two.right-sound (omega (arith, o.some)) f.sized.place pre.short
+      same (operands-formed o b pre.formed).1
+      (omega (arith, f.long, size, f.sized.left_is, size-two o b next two, pre.fits))
 
--- its push behind that of the first: all of the node's
-pub second-written : {s : List ℕ} {h : Head} {k : ℕ} (o : Own s h k) (b d : TrustBound) (out out₂ part : List ℕ)
-    (own left next : ℕ) (r : Pushed) (right last : ℕ) → Bytes s → Pushable s b (length out) → FirstWritten s h k b out out₂ own left next
-    → TwoOperands s k next → d ≡ second_bound h b
-    → Pushes (take (length s - (k + next)) (drop (k + next) s)) d (take (length out₂ - (own + left)) (drop (own + left) out₂)) part r
-    → r ≡ P.Node right last
-    → Pushes s b out (put_mid (own + left) (length out₂ - (own + left)) out₂ part) (P.Node (own + left + right) (k + next + last))
-second-written {s} {h} {k} o b d out out₂ part own left next r right last bytes pre f two same pushes e =
-    let y = second-sized o b d r right last f.sized two same pushes.found e in
-    let w = own_push h b (take k s) ++ node_bytes (push (first_bound h b) (node_of (drop k s))) in
-    let wrote = push-behind w out out₂ part (own + left) s (k + next) (second_bound h b) d r f.wrote f.fits same pushes e in
-    let all =
-    pushed-two o b next two bytes pre.sound
-    ∙ sym (append_assoc (own_push h b (take k s)) (node_bytes (push (first_bound h b) (node_of (drop k s))))
-    (node_bytes (push (second_bound h b) (node_of (drop (k + next) s))))) in
-    pushes_all s b _ out _ _ _ all wrote y.place
+  -- its push behind that of the first: all of the node's
+  pub second-written : (part : List ℕ) {right last : ℕ} → Bytes s
+      → Pushes (take (length s - (k + next)) (drop (k + next) s)) d (take (length out₂ - (own + left)) (drop (own + left) out₂)) part
+      (Ok (right, last))
+      → Pushes s b out (put_mid (own + left) (length out₂ - (own + left)) out₂ part) (Ok (own + left + right, k + next + last))
+  second-written part bytes pushes =
+      let o = f.sized.own in
+      let y = second-sized f.sized count more same pushes.is in
+      let w = own_push h b (take k s) ++ node_bytes (push (first_bound h b) (node_of (drop k s))) in
+      let wrote = push-behind w out out₂ part (own + left) s (k + next) (second_bound h b) d f.wrote f.fits same pushes in
+      let all =
+      pushed-two o b next (two-behind f.sized count more) bytes pre.sound
+      ∙ sym (append_assoc (own_push h b (take k s)) (node_bytes (push (first_bound h b) (node_of (drop k s))))
+      (node_bytes (push (second_bound h b) (node_of (drop (k + next) s))))) in
+      pushes_all s b _ out _ all wrote y.place

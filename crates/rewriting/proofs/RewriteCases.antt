@@ -15,26 +15,22 @@ use Rattle.tsparql.proofs.QueryLaws.{query-checked}
 use Rattle.tsparql.proofs.RefusalLaws.{or_else-second}
 use Rattle.tsparql.proofs.RewriteLaws.{rewrite-passes}
 use Rattle.query.specs.Found.{NodeSound, node_of}
-use Rattle.query.proofs.ReadLaws.{fault-not-got}
 use Rattle.query.proofs.Forest.{query-reads}
-use Rattle.scope.specs.declared.QueryAnswer.{QueryAnswer}
-use Rattle.scope.specs.declared.QueryAnswer.TheVariants as A
-use Rattle.scope.specs.Variables.{sound_in, refusal_in, Checked}
-use Rattle.rewriting.specs.declared.Pushed.{Pushed}
-use Rattle.rewriting.specs.declared.Pushed.TheVariants as P
-use Rattle.rewriting.specs.Answers.{Pushes, rewritten_in, answer_of}
+use Rattle.std.specs.Prelude.{Ok, Err}
+use Rattle.refusals.specs.declared.Refused.{Refused}
+use Rattle.refusals.specs.Refusals.{refusal_of}
+use Rattle.scope.specs.Variables.{Checked}
+use Rattle.rewriting.specs.Answers.{Pushes, rewritten_in}
 
-module _ (s out : List ℕ) (r : QueryAnswer) (checked : Checked rewrite_limit s r) where
-  -- 5 to 7
-  pub query-refused : {n p : ℕ} → r ≡ A.Refused n p → wrote_nothing (refuse n p) out ≡ rewrite s out
-  unfolding rewrite rewrite_refusal
-  query-refused e =
-      let no : passes (query_refusal rewrite_limit s) ≡ false = sym checked.sound ∙ ap sound_in e in
-      let is = sym checked.refusal ∙ ap refusal_in e in
-      sym (rw (no, no) (ap (λ (f : Refusal). wrote_nothing f out) is))
+-- 5 to 7
+pub query-refused : (s out : List ℕ) {e : Refused} → Checked rewrite_limit s (Err e) → wrote_nothing (refusal_of e) out ≡ rewrite s out
+unfolding rewrite rewrite_refusal
+query-refused s out checked =
+    let no : passes (query_refusal rewrite_limit s) ≡ false = sym checked.sound in
+    sym (rw (no, no) (ap (λ (f : Refusal). wrote_nothing f out) (sym checked.refusal)))
 
-  pub query-passes : r ≡ A.Sound → Passes (query_refusal rewrite_limit s)
-  query-passes e = eqb-true (query_refusal rewrite_limit s).number 0 (sym checked.sound ∙ ap sound_in e)
+pub query-passes : (s : List ℕ) → Checked rewrite_limit s (Ok tt) → Passes (query_refusal rewrite_limit s)
+query-passes s checked = eqb-true (query_refusal rewrite_limit s).number 0 (sym checked.sound)
 
 -- a query that passes is one node, and short enough
 pub record Whole (s : List ℕ) : Type 0 where
@@ -62,14 +58,13 @@ module _ (s out : List ℕ) (z : Passes (query_refusal rewrite_limit s)) where
       sym (rw (z, lt-ltb (length out) (length (rewriting s)) (omega (arith, is)), is))
 
   -- the push is written
-  pub all-written : (out' : List ℕ) (p : Pushed) → length (node_bytes (push no_bound (node_of s))) ≤ length out
-      → Pushes s no_bound out out' p → rewritten_in (answer_of p) out' ≡ rewrite s out
+  pub all-written : (out' : List ℕ) {size next : ℕ} → length (node_bytes (push no_bound (node_of s))) ≤ length out
+      → Pushes s no_bound out out' (Ok (size, next)) → rewritten_in (Ok size) out' ≡ rewrite s out
   unfolding rewrite_refusal
-  all-written out' (P.Node size next) l h =
+  all-written out' {size} l h =
       let is = rewriting-is in
       let fits = le-ltb (length out) (length (rewriting s)) (omega (arith, ap length is)) in
-      let n : size ≡ length (node_bytes (push no_bound (node_of s))) = cc h.found in
+      let n : size ≡ length (node_bytes (push no_bound (node_of s))) = cc h.is in
       let bytes = h.wrote.bytes in
       let passed = rewrite-passes s out (rw (or_else-second (query_refusal rewrite_limit s) _ z, fits)) in
       rw (n, bytes, is) (sym passed)
-  all-written out' (P.Refused n p) l h = absurd (fault-not-got h.found)

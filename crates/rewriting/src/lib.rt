@@ -2,105 +2,58 @@
 // from the query; ensure trust goes, and comes back where a bound wraps a node.
 #![tactic(auto)]
 
-ghost use Rattle.std.specs.Prelude.{◌≡◌, ◌+◌, ◌^◌, ◌≤◌, ◌<◌, length, take};
-ghost use Rattle.tsparql.specs.Push.{push, BoundFormed};
-ghost use Rattle.tsparql.specs.Reading.{got};
+ghost use Rattle.std.specs.Prelude.{◌≡◌, ◌≤◌, length, take};
+ghost use Rattle.tsparql.specs.Push.{BoundFormed};
 ghost use Rattle.tsparql.specs.Rewrite as Rewrite;
-ghost use Rattle.tsparql.specs.Writing.{node_size};
-ghost use Rattle.heads.specs.Answers.{node_found, fault_in};
-ghost use Rattle.query.specs.Found.{NodeSound, node_of};
+ghost use Rattle.query.specs.Found.{NodeSound};
+ghost use Rattle.refusals.specs.Reads.{found};
 ghost use Rattle.encoding.specs.Writers.{Wrote};
 ghost use Rattle.bounds.specs.Bounds.{bound_in, wrap_bytes, own_push, own_size};
-ghost use Rattle.rewriting.specs.Answers.{pushed_in, place_in, placed_behind, Pushable, Pushes, rewritten_in, answer_of};
+ghost use Rattle.rewriting.specs.Answers.{pushed, Pushable, Pushes, rewritten_in};
 
-use bounds::{Bound, first_bound, own_size, second_bound, stays_put, wraps};
+use bounds::{Bounds, first_bound, own_size, second_bound, stays_put, wraps};
 use encoding::write_head;
-use heads::{FAULT, Head, NodeRead, node_fault, node_operands};
+use heads::{Head, node_operands};
 use query::read_own;
-use scope::{QueryAnswer, check_query};
-
-// The size of a node's push and the place behind the node, or the refusal.
-#[derive(Clone, Copy)]
-enum Pushed {
-    Node(usize, usize),
-    Refused { number: u32, place: usize },
-}
-
-// The length of the result at the front of the output, or the refusal.
-#[derive(Clone, Copy)]
-pub enum RewriteAnswer {
-    Written(usize),
-    Refused { number: u32, place: usize },
-}
+use refusals::{Fault, Refused};
+use scope::check_query;
 
 // The most bytes of a query that is rewritten.
 const REWRITE_LIMIT: usize = 1024;
 
-// The refusal of a node that does not read.
-fn fault_refused(h: NodeRead) -> Pushed
-    ensures { result ≡ Pushed.Refused 6 (fault_in (node_found h)) }
-{
-    Pushed::Refused {
-        number: FAULT,
-        place: node_fault(h),
-    }
-}
-
-// A refusal at a place counted from k bytes before.
-fn refused_at(k: usize, p: Pushed) -> Pushed
-    requires { k + place_in p < 2 ^ 64 }
-    ensures { result ≡ placed_behind k p }
-{
-    match p {
-        Pushed::Node(size, next) => Pushed::Node(size, next),
-        Pushed::Refused { number, place } => Pushed::Refused {
-            number,
-            place: k + place,
-        },
-    }
-}
-
-// The size of the push of the node that a part starts with, and the place behind the node.
-fn push_size(q: &[u8], b: Bound) -> Pushed
+// The size of the push of the node that a part starts with, and the place behind the node. A part that reads has no fault.
+fn push_size(q: &[u8], b: Option<Bounds>) -> Result<(usize, usize), Fault>
     requires { NodeSound q.now × (length q.now ≤ 1024) }
-    ensures { pushed_in result ≡ got (node_size (push (bound_in b) (node_of q.now))) (node_size (node_of q.now)) }
+    ensures { found result ≡ pushed q.now (bound_in b) }
 {
-    let h = read_own(q);
-    let NodeRead::Node(head, k) = h else {
-        return fault_refused(h);
-    };
+    let (head, k) = read_own(q)?;
     let own = own_size(head, b, k);
     let n = node_operands(head);
     if n == 0 {
-        return Pushed::Node(own, k);
+        return Ok((own, k));
     }
-    let x = push_size(&q[k..], first_bound(head, b));
-    let Pushed::Node(left, next) = x else {
-        return refused_at(k, x);
-    };
+    let (left, next) = push_size(&q[k..], first_bound(head, b))?;
     let at = k + next;
+    let to = own + left;
     if n == 1 {
-        return Pushed::Node(own + left, at);
+        return Ok((to, at));
     }
-    let y = push_size(&q[at..], second_bound(head, b));
-    let Pushed::Node(right, last) = y else {
-        return refused_at(at, y);
-    };
-    Pushed::Node(own + left + right, at + last)
+    let (right, last) = push_size(&q[at..], second_bound(head, b))?;
+    Ok((to + right, at + last))
 }
 
 // Ensure trust with the bound at the front of the output, and how many bytes that is.
-fn write_wrap(b: Bound, out: &mut [u8]) -> usize
+fn write_wrap(b: Option<Bounds>, out: &mut [u8]) -> usize
     requires { BoundFormed (bound_in b) × (length (wrap_bytes (bound_in b)) ≤ length out.old) }
     ensures { Wrote (wrap_bytes (bound_in b)) out.old out.new result }
 {
     match b {
-        Bound::Nothing => 0,
-        Bound::Between(l, u) => write_head(Head::EnsureTrust(l, u), out),
+        None => 0,
+        Some(b) => write_head(Head::EnsureTrust(b.least, b.most), out),
     }
 }
 
-// The bytes at the front of the output, and how many they are.
+// The bytes at the front of the output, and how many they are. By `copy_from_slice` the archive would need memmove.
 fn copy(src: &[u8], out: &mut [u8]) -> usize
     requires { length src.now ≤ length out.old }
     ensures { Wrote src.now out.old out.new result }
@@ -112,76 +65,49 @@ fn copy(src: &[u8], out: &mut [u8]) -> usize
 }
 
 // What stands before a node's operands after the push, at the front of the output, and how many bytes that is.
-fn write_own(q: &[u8], h: Head, b: Bound, k: usize, out: &mut [u8]) -> usize
+fn write_own(q: &[u8], h: Head, b: Option<Bounds>, k: usize, out: &mut [u8]) -> usize
     requires { BoundFormed (bound_in b) × (k ≤ 1024) × (k ≤ length q.now) × (own_size h (bound_in b) k ≤ length out.old) }
     ensures { Wrote (own_push h (bound_in b) (take k q.now)) out.old out.new result }
 {
-    if stays_put(h) {
-        if wraps(h, b) {
-            let at = write_wrap(b, out);
-            return at + copy(&q[..k], &mut out[at..]);
-        }
-        return copy(&q[..k], out);
+    if !stays_put(h) {
+        return 0;
     }
-    0
+    let at = if wraps(h, b) { write_wrap(b, out) } else { 0 };
+    at + copy(&q[..k], &mut out[at..])
 }
 
-// The push of the node that a part starts with, at the front of the output.
-fn push_node(q: &[u8], b: Bound, out: &mut [u8]) -> Pushed
+// The push of the node that a part starts with, at the front of the output: its size, and the place behind the node. A part that reads
+// has no fault.
+fn push_node(q: &[u8], b: Option<Bounds>, out: &mut [u8]) -> Result<(usize, usize), Fault>
     requires { Pushable q.now (bound_in b) (length out.old) }
     ensures { Pushes q.now (bound_in b) out.old out.new result }
 {
-    let h = read_own(q);
-    let NodeRead::Node(head, k) = h else {
-        return fault_refused(h);
-    };
+    let (head, k) = read_own(q)?;
     let own = write_own(q, head, b, k, out);
     let n = node_operands(head);
     if n == 0 {
-        return Pushed::Node(own, k);
+        return Ok((own, k));
     }
-    let x = push_node(&q[k..], first_bound(head, b), &mut out[own..]);
-    let Pushed::Node(left, next) = x else {
-        return refused_at(k, x);
-    };
+    let (left, next) = push_node(&q[k..], first_bound(head, b), &mut out[own..])?;
     let at = k + next;
     let to = own + left;
     if n == 1 {
-        return Pushed::Node(to, at);
+        return Ok((to, at));
     }
-    let y = push_node(&q[at..], second_bound(head, b), &mut out[to..]);
-    let Pushed::Node(right, last) = y else {
-        return refused_at(at, y);
-    };
-    Pushed::Node(to + right, at + last)
+    let (right, last) = push_node(&q[at..], second_bound(head, b), &mut out[to..])?;
+    Ok((to + right, at + last))
 }
 
-// The refusal of a push as an answer; a node counts as written.
-fn answer_of(p: Pushed) -> RewriteAnswer
-    ensures { result ≡ answer_of p }
-{
-    match p {
-        Pushed::Node(size, _) => RewriteAnswer::Written(size),
-        Pushed::Refused { number, place } => RewriteAnswer::Refused { number, place },
-    }
-}
-
-// The rewriting of a query: refusals 5 to 7, then 9 where the output is too short; else the push at the front of the output.
-pub fn rewrite(q: &[u8], out: &mut [u8]) -> RewriteAnswer
+// The rewriting of a query: refusals 5 to 7, then 9 where the output is too short; else the push at the front of the output, and its
+// length.
+pub fn rewrite(q: &[u8], out: &mut [u8]) -> Result<usize, Refused>
     ensures { rewritten_in result out.new ≡ Rewrite.rewrite q.now out.old }
 {
-    if let QueryAnswer::Refused { number, place } = check_query(q, REWRITE_LIMIT) {
-        return RewriteAnswer::Refused { number, place };
-    }
-    let n = push_size(q, Bound::Nothing);
-    let Pushed::Node(size, _) = n else {
-        return answer_of(n);
-    };
+    check_query(q, REWRITE_LIMIT)?;
+    let (size, _) = push_size(q, None)?;
     if out.len() < size {
-        return RewriteAnswer::Refused {
-            number: 9,
-            place: size,
-        };
+        return Err(Refused::RewritingTooLong(size));
     }
-    answer_of(push_node(q, Bound::Nothing, out))
+    let (written, _) = push_node(q, None, out)?;
+    Ok(written)
 }
