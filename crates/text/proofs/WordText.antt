@@ -4,7 +4,7 @@ use mathlib.Core.Bool.{Bool, false, not}
 use mathlib.Core.List.{[], ◌∷◌, ◌++◌}
 use Prim.Native.Nat.{ℕ, ◌+◌, ◌-◌, ◌/◌, ◌%◌, ◌≤◌, ◌<◌}
 use native.Mathlib.Omega.{arith}
-use borrow.Author.Tests.{le-leb, lt-leb, lt-ltb, le-ltb, eq-eqb, ne_eqb}
+use borrow.Author.Tests.{le-leb, lt-leb, lt-ltb, le-ltb, ne_eqb}
 use Rattle.tsparql.specs.Lists.{only_if}
 use Rattle.tsparql.specs.Values.{is_free}
 use Rattle.tsparql.specs.Strikes.{ascii, decimal, trust_text, value_text, cell_text}
@@ -28,19 +28,10 @@ unknown-text w h = rw (lt-leb w 2000 h)
 pub minus-text : (w : ℕ) → w < 1000 → trust_text (word_trust w) ≡ ascii "-" ++ decimal (1000 - w)
 minus-text w h = rw (le-leb w 2000 (omega arith), lt-ltb w 1000 h)
 
-pub plus-text : (w : ℕ) → 1000 ≤ w → w ≤ 2000 → trust_text (word_trust w) ≡ decimal (w - 1000)
-plus-text w h l = rw (le-leb w 2000 l, le-ltb w 1000 h)
-
 -- ---- cells
-
-pub term-text : (w : ℕ) → 0 < w → w < 1048576 → value_text (word_cell w) ≡ decimal w
-term-text w h l = rw (ne_eqb w 0 (λ e. omega arith), lt-ltb w 1048576 l)
 
 pub trusted-text : (w : ℕ) → 1048576 ≤ w → value_text (word_cell w) ≡ ascii "t" ++ trust_text (word_trust (w - 1048576))
 trusted-text w h = rw (ne_eqb w 0 (λ e. omega arith), le-ltb w 1048576 h)
-
-pub free-text : (v w : ℕ) → w ≡ 0 → cell_text v (word_cell w) ≡ []
-free-text v w e = rw (eq-eqb w 0 e)
 
 pub set-text : (v w : ℕ) → (w ≡ 0 → ⊥)
     → cell_text v (word_cell w) ≡ ascii " ?" ++ (decimal v ++ (ascii "=" ++ value_text (word_cell w)))

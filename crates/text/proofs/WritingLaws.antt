@@ -46,17 +46,9 @@ sets-append (x ∷ xs) ys l i = go (ltb i (length l)) refl (sets-append xs ys (s
 pub puts_none : (at : ℕ) (out : List ℕ) → Puts [] at out out at
 puts_none at out = record { buffer = refl; place = omega arith }
 
--- none where the buffer ends
-pub puts-past : (bytes : List ℕ) (at : ℕ) (out : List ℕ) → length out ≤ at → Puts bytes at out out at
-puts-past bytes at out h = record { buffer = sym (sets-out bytes out at h); place = omega arith }
-
 -- the buffer keeps its length
 pub puts-length : {bytes : List ℕ} {at : ℕ} {out out' : List ℕ} {r : ℕ} → Puts bytes at out out' r → length out' ≡ length out
 puts-length {bytes} {at} {out} p = ap length p.buffer ∙ length-sets out at bytes
-
--- the place behind what was written from the start on is inside the buffer
-pub puts-inside : {bytes out out' : List ℕ} {r : ℕ} → Puts bytes 0 out out' r → r ≤ length out'
-puts-inside p = omega (arith, p.place, puts-length p)
 
 -- a run and then another
 pub puts_then : {xs ys : List ℕ} {at : ℕ} {out mid out' : List ℕ} {p r : ℕ}

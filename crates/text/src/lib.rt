@@ -32,10 +32,8 @@ fn put_text(text: &[u8], out: &mut [u8], at: usize) -> usize
     ensures { Puts text.now at out.old out.new result }
 {
     let mut place = at;
-    let mut i = 0;
-    while i < text.len() {
-        place = put_byte(text[i], out, place);
-        i += 1;
+    for b in text {
+        place = put_byte(*b, out, place);
     }
     place
 }
@@ -45,10 +43,10 @@ fn put_decimal(n: u64, out: &mut [u8], at: usize) -> usize
     ensures { Puts (decimal n) at out.old out.new result }
 {
     if n < 10 {
-        return put_byte(48 + n as u8, out, at);
+        return put_byte(b'0' + n as u8, out, at);
     }
     let tens = put_decimal(n / 10, out, at);
-    put_byte(48 + (n % 10) as u8, out, tens)
+    put_byte(b'0' + (n % 10) as u8, out, tens)
 }
 
 // ---- values
@@ -99,10 +97,8 @@ fn put_cells(row: [u32; 17], out: &mut [u8], at: usize) -> usize
     ensures { Puts (cells_text (row_in row)) at out.old out.new result }
 {
     let mut place = at;
-    let mut v = 0;
-    while v < 16 {
+    for v in 0..16 {
         place = put_cell(v, row[v], out, place);
-        v += 1;
     }
     place
 }
@@ -122,10 +118,8 @@ pub fn put_rows(space: &[u32], n: usize, out: &mut [u8], at: usize) -> usize
     ensures { Puts (concat_map row_line (rows_in n space.now)) at out.old out.new result }
 {
     let mut place = at;
-    let mut i = 0;
-    while i < n {
+    for i in 0..n {
         place = put_row(row_at(space, i), out, place);
-        i += 1;
     }
     place
 }

@@ -5,13 +5,7 @@ use Rattle.text.proofs.RowText.{cells-more}
 use Rattle.text.proofs.put_cells.Goals as goal
 
 pub loop-v-preserved : goal.loop-v-preserved
-loop-v-preserved c =
-    let l = c.loop-v in
-    let row = c.args.row in
-    (omega arith, cells-more row l.v l.invariant.1 (omega arith) c.put_cell-place.ensures)
+loop-v-preserved c = cells-more c.args.row c.loop-v.v c.loop-v.invariant (omega arith) c.put_cell-place.ensures
 
 pub returns : goal.returns
-returns c =
-    let l = c.loop-v in
-    let all : l.v ≡ 16 = omega arith in
-    rw all at l.invariant.1
+returns c = let all : c.loop-v.v ≡ 16 = omega arith in rw all at c.loop-v.invariant

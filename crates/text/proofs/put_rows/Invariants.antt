@@ -1,5 +1,4 @@
 -- After i turns the lines of the first i rows are written. Assumes nothing.
-use Prim.Native.Nat.{◌-◌, ◌≤◌}
 use Rattle.tsparql.specs.Lists.{concat_map}
 use Rattle.tsparql.specs.Strikes.{row_line}
 use Rattle.rows.specs.RowWords.{rows_in}
@@ -7,7 +6,4 @@ use Rattle.text.specs.Writing.{Puts}
 use Rattle.text.proofs.put_rows.Given as goal
 
 abbrev pub invariant-loop-i : goal.invariant-loop-i
-invariant-loop-i l = (l.i ≤ l.n) × Puts (concat_map row_line (rows_in l.i l.space)) l.at l.initial.out l.out l.place
-
-abbrev pub decreases-loop-i : goal.decreases-loop-i
-decreases-loop-i l = l.n - l.i
+invariant-loop-i l = Puts (concat_map row_line (rows_in l.i l.space)) l.at l.initial.out l.out l.place

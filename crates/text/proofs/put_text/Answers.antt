@@ -1,9 +1,7 @@
--- After i turns the first i bytes are written. Assumes nothing.
+-- After as many turns as bytes these are written. Assumes nothing.
 use native.Mathlib.Omega.{arith}
 use Rattle.text.proofs.WritingLaws.{puts-more}
 use Rattle.text.proofs.put_text.Goals as goal
 
-pub loop-i-preserved : goal.loop-i-preserved
-loop-i-preserved c =
-    let l = c.loop-i in
-    (omega arith, puts-more _ l.i l.invariant.1 (omega arith) c.put_byte-place.ensures)
+pub loop-b-preserved : goal.loop-b-preserved
+loop-b-preserved c = puts-more _ c.loop-b.b-index c.loop-b.invariant (omega arith) c.put_byte-place.ensures
