@@ -15,8 +15,9 @@ use Rattle.tsparql.proofs.PushQuery.{push-size-≤}
 use Rattle.heads.specs.declared.Head.{Head}
 use Rattle.heads.specs.Parts.{node_operands}
 use Rattle.query.specs.Found.{NodeSound, node_of}
+use Rattle.query.specs.Parts.{own_read}
 use Rattle.query.proofs.Forest.{operands_in}
-use Rattle.query.proofs.Operands.{Own, TwoOperands, operands-few, no_operand, one-operand, two_operands, second-operand}
+use Rattle.query.proofs.Operands.{Own, own-found, TwoOperands, operands-few, no_operand, one-operand, two_operands, second-operand}
 use Rattle.bounds.specs.Bounds.{first_bound, second_bound, own_push, own_size}
 use Rattle.tsparql.specs.Reading.{Read, got}
 use Rattle.rewriting.specs.Answers.{pushed}
@@ -146,10 +147,11 @@ pub record FirstSized (s : List ℕ) (h : Head) (k : ℕ) (b : TrustBound) (left
   pub inside : own_size h b k + left ≤ node_size (push b (node_of s))
   pub small : own_size h b k + left ≤ 5 * length s
 
-pub first-sized : {s : List ℕ} {h : Head} {k : ℕ} (o : Own s h k) (b : TrustBound) {n : ℕ} {d : TrustBound} {left next : ℕ}
-    → n ≡ node_operands h → (n ≡ 0 → ⊥) → d ≡ first_bound h b
+pub first-sized : (s : List ℕ) {h : Head} {k : ℕ} (b : TrustBound) {n : ℕ} {d : TrustBound} {left next : ℕ}
+    → NodeSound s → got h k ≡ own_read s → n ≡ node_operands h → (n ≡ 0 → ⊥) → d ≡ first_bound h b
     → got left next ≡ pushed (take (length s - k) (drop k s)) d → FirstSized s h k b left next
-first-sized {s} {h} {k} o b {n} {d} count is_some same found =
+first-sized s {h} {k} b {n} {d} sound read count is_some same found =
+    let o = own-found s h k sound (sym read) in
     let some = rw count at is_some in
     let a = answered-part s k (first_bound h b) d same found in
     let inside = first-inside o b some in

@@ -15,15 +15,18 @@ use Rattle.tsparql.proofs.PushQuery.{trust_floor-formed, meet-formed}
 use Rattle.heads.specs.declared.Head.{Head}
 use Rattle.query.specs.Answers.{node_head}
 use Rattle.query.specs.Found.{NodeSound, node_of}
+use Rattle.query.specs.Parts.{own_read}
+use Rattle.tsparql.specs.Reading.{got}
 use Rattle.encoding.specs.Writers.{Wrote}
 use Rattle.std.specs.Prelude.{Ok}
 use Rattle.std.proofs.lemmas.List.{take_rest}
 use Rattle.heads.specs.Parts.{node_operands}
-use Rattle.query.proofs.Operands.{Own, first-sound}
+use Rattle.query.proofs.Operands.{Own, own-found, no_operand, one-operand, first-sound}
 use Rattle.encoding.proofs.WriterLaws.{wrote-long, wrote-behind}
 use Rattle.bounds.specs.Bounds.{first_bound, second_bound, own_push, own_size}
 use Rattle.rewriting.specs.Answers.{Pushable, Pushes}
-use Rattle.rewriting.proofs.PushSteps.{part-ready, answered-part, own-inside, own-taken, first-inside, size-two, pushed-two}
+use Rattle.rewriting.proofs.PushSteps.{part-ready, answered-part, own-inside, own-taken, first-inside, size-two}
+use Rattle.rewriting.proofs.PushSteps.{pushed_none, pushed-one, pushed-two}
 use Rattle.rewriting.proofs.PushSteps.{FirstSized, first-sized, two-behind, second-sized}
 
 -- ---- bounds in range
@@ -96,15 +99,24 @@ own-written {s} {h} {k} o b out out₁ own room w =
     let kept : length out₁ ≡ length out = wrote-long (own_push h b (take k s)) out out₁ own w fits in
     record { size = w.size ∙ long; fits = fits; long = kept; inside = omega (arith, w.size, kept, fits) }
 
+-- where it has no operand, that is all
+pub none-written : (s : List ℕ) {h : Head} {k : ℕ} (b : TrustBound) (out out₁ : List ℕ) (own : ℕ) {n : ℕ} → Bytes s → NodeSound s
+    → got h k ≡ own_read s → Wrote (own_push h b (take k s)) out out₁ own → n ≡ node_operands h → n ≡ 0 → Pushes s b out out₁ (Ok (own, k))
+none-written s {h} {k} b out out₁ own bytes sound read wrote count e =
+    let o = own-found s h k sound (sym read) in
+    let none : node_operands h ≡ 0 = omega (arith, count) in
+    pushes_all s b _ out out₁ (pushed_none o b bytes sound none) wrote (sym (no_operand o none).1)
+
 -- ---- the first operand
 
 -- what its part and the rest of the output are ready for
-pub first-ready : {s : List ℕ} {h : Head} {k : ℕ} (o : Own s h k) (b d : TrustBound) (out out₁ : List ℕ) (own : ℕ)
-    → Pushable s b (length out) → {n : ℕ} → n ≡ node_operands h → (n ≡ 0 → ⊥) → d ≡ first_bound h b
+pub first-ready : (s : List ℕ) {h : Head} {k : ℕ} (b d : TrustBound) (out out₁ : List ℕ) (own : ℕ)
+    → Pushable s b (length out) → got h k ≡ own_read s → {n : ℕ} → n ≡ node_operands h → (n ≡ 0 → ⊥) → d ≡ first_bound h b
     → Wrote (own_push h b (take k s)) out out₁ own
     → (length (take (length s - k) (drop k s)) < length s)
     × Pushable (take (length s - k) (drop k s)) d (length (take (length out₁ - own) (drop own out₁)))
-first-ready {s} {h} {k} o b d out out₁ own pre count is_some same wrote =
+first-ready s {h} {k} b d out out₁ own pre read count is_some same wrote =
+    let o = own-found s h k pre.sound (sym read) in
     let some = rw count at is_some in
     let w = own-written o b out out₁ own pre.fits wrote in
     operand-ready s k d (first_bound h b) out₁ own (first-sound o some) o.some o.inside pre.short same
@@ -113,24 +125,36 @@ first-ready {s} {h} {k} o b d out out₁ own pre count is_some same wrote =
 -- its push behind the node's own part
 pub record FirstWritten (s : List ℕ) (h : Head) (k : ℕ) (b : TrustBound) (out out₂ : List ℕ) (own left next : ℕ) : Type 0 where
   pub sized : FirstSized s h k b left next
+  pub size : own ≡ own_size h b k
   pub wrote : Wrote (own_push h b (take k s) ++ node_bytes (push (first_bound h b) (node_of (drop k s)))) out out₂ (own + left)
   pub fits : length (own_push h b (take k s) ++ node_bytes (push (first_bound h b) (node_of (drop k s)))) ≤ length out
   pub long : length out₂ ≡ length out
   pub inside : own + left ≤ length out₂
 
-pub first-written : {s : List ℕ} {h : Head} {k : ℕ} (o : Own s h k) (b d : TrustBound) (out out₁ part : List ℕ) (own : ℕ) {left next : ℕ}
-    → Pushable s b (length out) → Wrote (own_push h b (take k s)) out out₁ own → {n : ℕ} → n ≡ node_operands h → (n ≡ 0 → ⊥)
-    → d ≡ first_bound h b → Pushes (take (length s - k) (drop k s)) d (take (length out₁ - own) (drop own out₁)) part (Ok (left, next))
+pub first-written : (s : List ℕ) {h : Head} {k : ℕ} (b d : TrustBound) (out out₁ part : List ℕ) (own : ℕ) {left next : ℕ}
+    → Pushable s b (length out) → got h k ≡ own_read s → Wrote (own_push h b (take k s)) out out₁ own
+    → {n : ℕ} → n ≡ node_operands h → (n ≡ 0 → ⊥) → d ≡ first_bound h b
+    → Pushes (take (length s - k) (drop k s)) d (take (length out₁ - own) (drop own out₁)) part (Ok (left, next))
     → FirstWritten s h k b out (put_mid own (length out₁ - own) out₁ part) own left next
-first-written {s} {h} {k} o b d out out₁ part own {left} pre w count some same pushes =
-    let x = first-sized o b count some same pushes.is in
+first-written s {h} {k} b d out out₁ part own {left} pre read w count some same pushes =
+    let x = first-sized s b pre.sound read count some same pushes.is in
+    let o = x.own in
     let mine = own-written o b out out₁ own pre.fits w in
     let wrote = push-behind (own_push h b (take k s)) out out₁ part own s k (first_bound h b) d w mine.fits same pushes in
     let first = node_bytes (push (first_bound h b) (node_of (drop k s))) in
     let fits : length (own_push h b (take k s) ++ first) ≤ length out =
     omega (arith, length-append (own_push h b (take k s)) first, own-taken o b, x.inside, x.left_is, pre.fits) in
     let long = wrote-long (own_push h b (take k s) ++ first) out (put_mid own (length out₁ - own) out₁ part) (own + left) wrote fits in
-    record { sized = x; wrote = wrote; fits = fits; long = long; inside = omega (arith, wrote.size, fits, long) }
+    record { sized = x; size = mine.size; wrote = wrote; fits = fits; long = long; inside = omega (arith, wrote.size, fits, long) }
+
+-- where it is the only one, that is all
+pub one-written : {s : List ℕ} {h : Head} {k : ℕ} {b : TrustBound} {out out₂ : List ℕ} {own left next n : ℕ} → Bytes s
+    → Pushable s b (length out) → FirstWritten s h k b out out₂ own left next → n ≡ node_operands h → n ≡ 1
+    → Pushes s b out out₂ (Ok (own + left, k + next))
+one-written {s} {h} {k} {b} {out} bytes pre f count e =
+    let one : node_operands h ≡ 1 = omega (arith, count) in
+    pushes_all s b _ out _ (pushed-one f.sized.own b bytes pre.sound one) f.wrote
+    (omega (arith, f.sized.next-is, (one-operand f.sized.own one).size))
 
 -- ---- the second operand
 
@@ -138,15 +162,14 @@ module _ {s : List ℕ} {h : Head} {k : ℕ} {b : TrustBound} {out out₂ : List
     (f : FirstWritten s h k b out out₂ own left next) {n : ℕ} (count : n ≡ node_operands h) (more : n ≡ 1 → ⊥) {d : TrustBound}
     (same : d ≡ second_bound h b) where
   -- what its part and the rest of the output are ready for
-  pub second-ready : own ≡ own_size h b k
-      → (length (take (length s - (k + next)) (drop (k + next) s)) < length s)
+  pub second-ready : (length (take (length s - (k + next)) (drop (k + next) s)) < length s)
       × Pushable (take (length s - (k + next)) (drop (k + next) s)) d (length (take (length out₂ - (own + left)) (drop (own + left) out₂)))
-  second-ready size =
+  second-ready =
       let o = f.sized.own in
       let two = two-behind f.sized count more in
       operand-ready s (k + next) d (second_bound h b) out₂ (own + left) two.right-sound (omega (arith, o.some)) f.sized.place pre.short
       same (operands-formed o b pre.formed).1
-      (omega (arith, f.long, size, f.sized.left_is, size-two o b next two, pre.fits))
+      (omega (arith, f.long, f.size, f.sized.left_is, size-two o b next two, pre.fits))
 
   -- its push behind that of the first: all of the node's
   pub second-written : (part : List ℕ) {right last : ℕ} → Bytes s

@@ -146,13 +146,15 @@ pub forest_projections-step : (at : ℕ) (x : Node) (xs : List Node)
 unfolding trust_projections
 forest_projections-step at (pattern_set ps) xs = refl
 forest_projections-step at (join x y) xs =
-    two-projections (at + 1) (at + 1) (at + 1 + node_size x) (at + node_size (join x y)) x y xs refl refl (omega (arith, node_size-join x y))
+    two-projections (at + 1) (at + 1) (at + 1 + node_size x) (at + node_size (join x y)) x y xs refl refl
+    (omega (arith, node_size-join x y))
 forest_projections-step at (left_join c x y) xs =
     let first = at + 1 + condition_size c in
     two-projections (at + (1 + condition_size c)) first (first + node_size x) (at + node_size (left_join c x y)) x y xs (omega arith) refl
     (omega (arith, node_size-left_join c x y))
 forest_projections-step at (union x y) xs =
-    two-projections (at + 1) (at + 1) (at + 1 + node_size x) (at + node_size (union x y)) x y xs refl refl (omega (arith, node_size-union x y))
+    two-projections (at + 1) (at + 1) (at + 1 + node_size x) (at + node_size (union x y)) x y xs refl refl
+    (omega (arith, node_size-union x y))
 forest_projections-step at (filter c x) xs =
     one-projection (at + (1 + condition_size c)) (at + 1 + condition_size c) (at + node_size (filter c x)) x xs (omega arith)
     (omega (arith, node_size-filter c x))

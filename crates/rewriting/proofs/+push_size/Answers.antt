@@ -33,59 +33,68 @@ push_size-requires t c =
 
 pub overflow_add-at : goal.overflow_add-at
 overflow_add-at t c =
-    let o = own-found c.args.q.now _ _ c.requires.0 (sym c.in_ok-head.ensures) in
-    let x = first-sized o (bound_in c.args.b) c.node_operands-n.ensures c.if-n-eq0.false c.first_bound.ensures c.in_ok-left.ensures in
+    let x =
+    first-sized c.args.q.now (bound_in c.args.b) c.requires.0 c.in_ok-head.ensures c.node_operands-n.ensures c.if-n-eq0.false
+    c.first_bound.ensures c.in_ok-left.ensures in
     omega (arith, x.place, c.requires.1)
 
 pub overflow_add-to : goal.overflow_add-to
 overflow_add-to t c =
-    let o = own-found c.args.q.now _ _ c.requires.0 (sym c.in_ok-head.ensures) in
-    let x = first-sized o (bound_in c.args.b) c.node_operands-n.ensures c.if-n-eq0.false c.first_bound.ensures c.in_ok-left.ensures in
+    let x =
+    first-sized c.args.q.now (bound_in c.args.b) c.requires.0 c.in_ok-head.ensures c.node_operands-n.ensures c.if-n-eq0.false
+    c.first_bound.ensures c.in_ok-left.ensures in
     omega (arith, x.small, c.own_size-own.ensures, c.requires.1)
 
 pub returns-then-n-eq1 : goal.returns-then-n-eq1
 returns-then-n-eq1 t c =
-    let o = own-found c.args.q.now _ _ c.requires.0 (sym c.in_ok-head.ensures) in
-    let x = first-sized o (bound_in c.args.b) c.node_operands-n.ensures c.if-n-eq0.false c.first_bound.ensures c.in_ok-left.ensures in
+    let x =
+    first-sized c.args.q.now (bound_in c.args.b) c.requires.0 c.in_ok-head.ensures c.node_operands-n.ensures c.if-n-eq0.false
+    c.first_bound.ensures c.in_ok-left.ensures in
     one-sized (bound_in c.args.b) c.own_size-own.ensures c.node_operands-n.ensures x c.if-n-eq1.true
 
 pub slice_bounds-push_size-count-2 : goal.slice_bounds-push_size-count-2
 slice_bounds-push_size-count-2 t c =
-    let o = own-found c.args.q.now _ _ c.requires.0 (sym c.in_ok-head.ensures) in
-    let x = first-sized o (bound_in c.args.b) c.node_operands-n.ensures c.if-n-eq0.false c.first_bound.ensures c.in_ok-left.ensures in
+    let x =
+    first-sized c.args.q.now (bound_in c.args.b) c.requires.0 c.in_ok-head.ensures c.node_operands-n.ensures c.if-n-eq0.false
+    c.first_bound.ensures c.in_ok-left.ensures in
     x.place
 
 pub slice_bounds-push_size-start-2 : goal.slice_bounds-push_size-start-2
 slice_bounds-push_size-start-2 t c =
-    let o = own-found c.args.q.now _ _ c.requires.0 (sym c.in_ok-head.ensures) in
-    let x = first-sized o (bound_in c.args.b) c.node_operands-n.ensures c.if-n-eq0.false c.first_bound.ensures c.in_ok-left.ensures in
+    let x =
+    first-sized c.args.q.now (bound_in c.args.b) c.requires.0 c.in_ok-head.ensures c.node_operands-n.ensures c.if-n-eq0.false
+    c.first_bound.ensures c.in_ok-left.ensures in
     omega (arith, x.place)
 
 pub push_size-requires-2 : goal.push_size-requires-2
 push_size-requires-2 t c =
-    let o = own-found c.args.q.now _ _ c.requires.0 (sym c.in_ok-head.ensures) in
-    let x = first-sized o (bound_in c.args.b) c.node_operands-n.ensures c.if-n-eq0.false c.first_bound.ensures c.in_ok-left.ensures in
+    let x =
+    first-sized c.args.q.now (bound_in c.args.b) c.requires.0 c.in_ok-head.ensures c.node_operands-n.ensures c.if-n-eq0.false
+    c.first_bound.ensures c.in_ok-left.ensures in
     let two = two-behind x c.node_operands-n.ensures c.if-n-eq1.false in
-    let r = part-ready c.args.q.now (c.in_ok-head.k + c.in_ok-left.next) two.right-sound (omega (arith, o.some)) x.place c.requires.1 in
+    let r = part-ready c.args.q.now (c.in_ok-head.k + c.in_ok-left.next) two.right-sound (omega (arith, x.own.some)) x.place c.requires.1 in
     (omega (arith, r.0), (r.1, r.2))
 
 pub overflow_add-result : goal.overflow_add-result
 overflow_add-result t c =
-    let o = own-found c.args.q.now _ _ c.requires.0 (sym c.in_ok-head.ensures) in
-    let x = first-sized o (bound_in c.args.b) c.node_operands-n.ensures c.if-n-eq0.false c.first_bound.ensures c.in_ok-left.ensures in
+    let x =
+    first-sized c.args.q.now (bound_in c.args.b) c.requires.0 c.in_ok-head.ensures c.node_operands-n.ensures c.if-n-eq0.false
+    c.first_bound.ensures c.in_ok-left.ensures in
     let y = second-sized x c.node_operands-n.ensures c.if-n-eq1.false c.second_bound.ensures c.in_ok-right.ensures in
-    omega (arith, y.total, c.own_size-own.ensures, push-inside o (bound_in c.args.b), c.requires.1)
+    omega (arith, y.total, c.own_size-own.ensures, push-inside x.own (bound_in c.args.b), c.requires.1)
 
 pub overflow_add-result-2 : goal.overflow_add-result-2
 overflow_add-result-2 t c =
-    let o = own-found c.args.q.now _ _ c.requires.0 (sym c.in_ok-head.ensures) in
-    let x = first-sized o (bound_in c.args.b) c.node_operands-n.ensures c.if-n-eq0.false c.first_bound.ensures c.in_ok-left.ensures in
+    let x =
+    first-sized c.args.q.now (bound_in c.args.b) c.requires.0 c.in_ok-head.ensures c.node_operands-n.ensures c.if-n-eq0.false
+    c.first_bound.ensures c.in_ok-left.ensures in
     let y = second-sized x c.node_operands-n.ensures c.if-n-eq1.false c.second_bound.ensures c.in_ok-right.ensures in
-    omega (arith, y.place, o.size-inside, c.requires.1)
+    omega (arith, y.place, x.own.size-inside, c.requires.1)
 
 pub returns : goal.returns
 returns t c =
-    let o = own-found c.args.q.now _ _ c.requires.0 (sym c.in_ok-head.ensures) in
-    let x = first-sized o (bound_in c.args.b) c.node_operands-n.ensures c.if-n-eq0.false c.first_bound.ensures c.in_ok-left.ensures in
+    let x =
+    first-sized c.args.q.now (bound_in c.args.b) c.requires.0 c.in_ok-head.ensures c.node_operands-n.ensures c.if-n-eq0.false
+    c.first_bound.ensures c.in_ok-left.ensures in
     let y = second-sized x c.node_operands-n.ensures c.if-n-eq1.false c.second_bound.ensures c.in_ok-right.ensures in
     got-is (omega (arith, y.total, c.own_size-own.ensures)) y.place
