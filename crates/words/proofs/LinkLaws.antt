@@ -11,7 +11,7 @@ use lib.ListN.{length, drop, get_or, set, length-set, length-drop}
 use lib.Seq.{drop-drop, drop-length, get_or-set_same, get_or-set_other}
 use borrow.Author.Tests.{ltb-true, ltb-false}
 use Rattle.grammar.proofs.Basics.{cond_cases, ahead}
-use Rattle.words.specs.Links.{is_opening, is_closing, behind_of, closing, LinkedFrom, Linked, Links}
+use Rattle.words.specs.Links.{is_opening, is_closing, behind_of, closing, LinkedFrom, Linked}
 
 -- ---- what stands behind
 
@@ -153,10 +153,6 @@ pub record Linking (t ends₀ ends : List ℕ) (i : ℕ) : Type 0 where
   pub links : LinkedFrom t ends i
   pub kept : (j : ℕ) → length t < j → get_or ends j 0 ≡ get_or ends₀ j 0
 
--- what is known one place on
-pub linking-links : (t ends₀ ends : List ℕ) (i : ℕ) → 0 < i → Linking t ends₀ ends i → LinkedFrom t ends (i - 1 + 1)
-linking-links t ends₀ ends i h l = let back : i - 1 + 1 ≡ i = omega arith in subst⁻¹ (LinkedFrom t ends) back l.links
-
 -- an entry more
 linked-entry :
     (t ends : List ℕ) (i e : ℕ) → i < length ends → e ≡ closing t i → LinkedFrom t ends (i + 1) → LinkedFrom t (set ends i e) i
@@ -186,29 +182,6 @@ linking-first t ends h =
       within = subst⁻¹ (λ (m : ℕ). n < m) (length-set ends n n) h;
       links = linked-entry t ends n n h (closed-place all) (λ j a b. absurd (omega arith));
       kept = λ j a. refl;
-    }
-
-pub linking-next :
-    (t ends₀ ends : List ℕ) (i e : ℕ) → 0 < i → Linking t ends₀ ends i → e ≡ closing t (i - 1)
-    → Linking t ends₀ (set ends (i - 1) e) (i - 1)
-linking-next t ends₀ ends i e h l c =
-    let inside = l.inside in
-    let within = l.within in
-    record {
-      inside = omega arith;
-      same = length-set ends (i - 1) e ∙ l.same;
-      within = subst⁻¹ (λ (m : ℕ). length t < m) (length-set ends (i - 1) e) l.within;
-      links = linked-entry t ends (i - 1) e (omega arith) c (linking-links t ends₀ ends i h l);
-      kept = λ j a. get_or-set_other ends (i - 1) j e 0 (λ q. omega arith) ∙ l.kept j a;
-    }
-
-pub linking-all :
-    (t before ends : List ℕ) (i : ℕ) → i ≤ 0 → Linking t (set before (length t) (length t)) ends i → Links t before ends
-linking-all t before ends i h l =
-    let none : 0 ≡ i = omega arith in
-    record {
-      linked = record { within = l.within; links = subst⁻¹ (LinkedFrom t ends) none l.links };
-      kept = λ j a. l.kept j a ∙ get_or-set_other before (length t) j (length t) 0 (λ q. omega arith);
     }
 
 -- ---- a place

@@ -22,8 +22,8 @@ returns-then-opens c =
     let opening = sym c.opens.ensures ∙ c.if-opens.true in
     closed-place (closed-opening a.t.now a.ends.now a.i (search rules) c.requires.linked_from not_closing opening)
 
-pub returns : goal.returns
-returns c =
+pub returns-else-opens : goal.returns-else-opens
+returns-else-opens c =
     let a = c.args in
     let not_closing = sym c.closes.ensures ∙ c.if-closes.false in
     let not_opening = sym c.opens.ensures ∙ c.if-opens.false in
