@@ -241,3 +241,7 @@ exchanges {l} {l'} {i} {m} {e} w pre a b p n h =
     split-holds l' (pre ++ (b ++ a)) D e
     (so ∙ ap (λ (x : List ℕ). pre ++ x) (sym (append_assoc b a D)) ∙ sym (append_assoc pre (b ++ a) D))
     (omega (arith, size, length-append pre (b ++ a), length-append b a))
+
+pub ruleset exchanging = (exchange-none, exchange-reversals)
+
+pub ruleset reversing = (reversed-write)

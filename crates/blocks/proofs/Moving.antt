@@ -72,9 +72,12 @@ one-back l now at e j h m =
           ∙ ap (λ (x : List ℕ). take (j + 1) l ++ (x ++ drop (e + 1) l)) (sym (next-part l j e (omega arith) r));
     }
 
-pub moved-one : (l now : List ℕ) (at e i : ℕ) → at < i → Moved l now at e i → Moved l (set now i (get_or now (i - 1) 0)) at e (i - 1)
+pub moved-one :
+    (l now : List ℕ) (at e i : ℕ) → at < i → Moved l now at e i → Moved l (set now (i - 1 + 1) (get_or now (i - 1) 0)) at e (i - 1)
 moved-one l now at e (zero) h m = absurd (omega arith)
-moved-one l now at e (suc j) h m = let q : suc j - 1 ≡ j = omega arith in rw q (one-back l now at e j (omega arith) m)
+moved-one l now at e (suc j) h m =
+    let q : suc j - 1 ≡ j = omega arith in
+    rw (q, add-one j) (one-back l now at e j (omega arith) m)
 
 moved-last : (l now : List ℕ) (at e i v : ℕ) → i ≤ at → Moved l now at e i → set now at v ≡ shifted l at e v
 moved-last l now at e i v h m =
@@ -99,3 +102,5 @@ insert-full l at e v r = sym (rw (le-ltb e (length l) r, B.and-false (leb at e))
 pub insert-behind : (l : List ℕ) (at e v : ℕ) → e < at → buffer l e ≡ inserted (buffer l e) at v
 unfolding inserted
 insert-behind l at e v r = sym (rw (lt-leb at e r))
+
+pub ruleset inserting = (moved_none, moved-one, insert-room, insert-full, insert-behind)

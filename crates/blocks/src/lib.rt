@@ -6,34 +6,23 @@ ghost use Rattle.std.specs.Prelude.{[], ◌∷◌, ◌≡◌, ◌≤◌, ◌%◌
 ghost use Rattle.tsparql.specs.Writing.{three_bytes};
 ghost use Rattle.blocks.specs.Buffers.{buffer, inserted, appended, reversed, exchanged};
 
-// The byte v at a place, and what stands from there to the end one place on; nothing where there is no room.
-fn insert(out: &mut [u8], at: usize, end: usize, v: u8) -> usize
-    requires { at ≤ end }
+// The byte v in front of the last block, which stands from a place to the end and moves on by one.
+#[tactic(auto, using(crate::proofs::Moving::inserting))]
+pub fn put(out: &mut [u8], at: usize, end: usize, v: u8) -> usize
     ensures { buffer out.new result ≡ inserted (buffer out.old end) at v }
 {
-    if out.len() <= end {
+    if end < at || out.len() <= end {
         return end;
     }
-    let mut i = end;
-    while at < i {
-        out[i] = out[i - 1];
-        i -= 1;
+    for i in (at..end).rev() {
+        out[i + 1] = out[i];
     }
     out[at] = v;
     end + 1
 }
 
-// The byte v in front of the last block, which stands from a place to the end.
-pub fn put(out: &mut [u8], at: usize, end: usize, v: u8) -> usize
-    ensures { buffer out.new result ≡ inserted (buffer out.old end) at v }
-{
-    if end < at {
-        return end;
-    }
-    insert(out, at, end, v)
-}
-
 // A byte behind the last block.
+#[tactic(auto, unfolding(crate::specs::Buffers::appended))]
 pub fn append(out: &mut [u8], end: usize, v: u8) -> usize
     ensures { buffer out.new result ≡ appended (buffer out.old end) (v ∷ []) }
 {
@@ -44,12 +33,14 @@ pub fn append(out: &mut [u8], end: usize, v: u8) -> usize
 pub fn append3(out: &mut [u8], end: usize, x: u32) -> usize
     ensures { buffer out.new result ≡ appended (buffer out.old end) (three_bytes (x % 2097152)) }
 {
-    let n = append(out, end, (x / 65536 % 32) as u8);
-    let m = append(out, n, (x / 256 % 256) as u8);
-    append(out, m, (x % 256) as u8)
+    let [_, high, middle, low] = x.to_be_bytes();
+    let n = append(out, end, high % 32);
+    let m = append(out, n, middle);
+    append(out, m, low)
 }
 
 // The bytes from one place up to another, the last one first.
+#[tactic(auto, using(crate::proofs::Holding::reversing))]
 fn reverse(out: &mut [u8], from: usize, to: usize)
     requires { (from ≤ to) × (to ≤ length out.old) }
     ensures { out.new ≡ reversed out.old from to }
@@ -58,16 +49,11 @@ fn reverse(out: &mut [u8], from: usize, to: usize)
 }
 
 // The last two blocks, from `at` to `mid` and on to the end, change places: each is reversed, and then the whole.
+#[tactic(auto, using(crate::proofs::Holding::exchanging))]
 pub fn exchange(out: &mut [u8], at: usize, mid: usize, end: usize)
     ensures { out.new ≡ exchanged out.old at mid end }
 {
-    if mid < at {
-        return;
-    }
-    if end < mid {
-        return;
-    }
-    if out.len() < end {
+    if mid < at || end < mid || out.len() < end {
         return;
     }
     reverse(out, at, mid);

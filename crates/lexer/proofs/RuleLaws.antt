@@ -1,5 +1,5 @@
--- The rules as a table: the loop of `allowed` looks a rule up in it (`Searched`, `searched-..`), and it lists what the automaton's own
--- tables say (`looked-up`). Assumes nothing.
+-- The rules as a table: what the first rule for a symbol and a first byte says (`lookup`), and that it is what the automaton's own tables say
+-- (`looked-up`). Assumes nothing.
 use mathlib.Core.Path.{◌≡◌, refl, sym, ap, ◌∙◌}
 use mathlib.Core.Bool.{Bool, true, false, cond}
 use mathlib.Core.List.{List, [], ◌∷◌}

@@ -1,6 +1,9 @@
 -- Three bytes, one after the other, are those of the number. Assumes nothing.
-use mathlib.Core.Path.{◌≡◌, sym, ap, ◌∙◌}
-use mathlib.Core.List.{[], ◌∷◌}
+use mathlib.Core.Path.{◌≡◌, ap, ◌∙◌}
+use mathlib.Core.List.{List, [], ◌∷◌}
+use mir.Syntax.{w32}
+use lib.ListN.{get_or}
+use Rattle.std.specs.Int.{to_be_bytes}
 use Prim.Native.Nat.{ℕ, ◌/◌, ◌%◌}
 use native.Mathlib.Omega.{arith}
 use Rattle.tsparql.specs.Writing.{three_bytes}
@@ -8,14 +11,16 @@ use Rattle.blocks.specs.Buffers.{buffer, appended}
 use Rattle.blocks.proofs.Holding.{appended-on}
 use Rattle.blocks.proofs.append3.Goals as goal
 
-low-bytes : (x : ℕ) → x / 65536 % 32 ∷ x / 256 % 256 ∷ x % 256 ∷ [] ≡ three_bytes (x % 2097152)
-low-bytes x =
-    let p : x % 2097152 / 65536 ≡ x / 65536 % 32 = omega arith in
-    let q : x % 2097152 / 256 % 256 ≡ x / 256 % 256 = omega arith in
-    let r : x % 2097152 % 256 ≡ x % 256 = omega arith in
-    sym (rw (p, q, r))
+low-bytes :
+    (x : ℕ) (bs : List ℕ) → bs ≡ to_be_bytes w32 x → get_or bs 1 0 % 32 ∷ get_or bs 2 0 ∷ get_or bs 3 0 ∷ [] ≡ three_bytes (x % 2097152)
+low-bytes x bs e =
+    let p : x / 65536 % 256 % 32 ≡ x % 2097152 / 65536 = omega arith in
+    let q : x / 256 % 256 ≡ x % 2097152 / 256 % 256 = omega arith in
+    let r : x % 256 ≡ x % 2097152 % 256 = omega arith in
+    rw e (rw (p, q, r))
 
 pub returns : goal.returns
 returns c =
     let b = buffer c.args.out.now c.args.end in
-    appended-on _ _ b (appended-on _ _ b c.append-n.ensures c.append-m.ensures) c.append.ensures ∙ ap (appended b) (low-bytes c.args.x)
+    appended-on _ _ b (appended-on _ _ b c.append-n.ensures c.append-m.ensures) c.append.ensures
+    ∙ ap (appended b) (low-bytes c.args.x c.to_be_bytes.result c.to_be_bytes.ensures)

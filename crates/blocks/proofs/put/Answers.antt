@@ -1,7 +1,7 @@
--- An insertion, where the place is not behind the end. Assumes nothing.
+-- By what the loop has moved on. Assumes nothing.
 use native.Mathlib.Omega.{arith}
-use Rattle.blocks.proofs.Moving.{insert-behind}
+use Rattle.blocks.proofs.Moving.{moved-one}
 use Rattle.blocks.proofs.put.Goals as goal
 
-pub returns-then-end-at : goal.returns-then-end-at
-returns-then-end-at c = insert-behind c.args.out.now c.args.at c.args.end c.args.v (omega arith)
+pub loop-i-preserved : goal.loop-i-preserved
+loop-i-preserved c = moved-one c.args.out.now c.loop-i.out c.args.at c.args.end c.loop-i.i (omega arith) c.loop-i.invariant

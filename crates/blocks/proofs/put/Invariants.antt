@@ -1,9 +1,6 @@
 -- The loop's invariant: what stands from i to the end has moved on by one. Assumes nothing.
 use Rattle.blocks.proofs.Moving.{Moved}
-use Rattle.blocks.proofs.insert.Given as goal
+use Rattle.blocks.proofs.put.Given as goal
 
 abbrev pub invariant-loop-i : goal.invariant-loop-i
 invariant-loop-i l = Moved l.initial.out l.out l.at l.end l.i
-
-abbrev pub decreases-loop-i : goal.decreases-loop-i
-decreases-loop-i l = l.i
