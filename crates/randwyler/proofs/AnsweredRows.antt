@@ -29,7 +29,8 @@ use Rattle.patterns.proofs.RecordLaws.{facts-formed}
 use Rattle.evaluation.specs.Evaluations.{Answers}
 use Rattle.evaluation.specs.declared.QueryRows.{QueryRows}
 use Rattle.evaluation.proofs.ReadyLaws.{rows-formed}
-use Rattle.evaluation.specs.declared.QueryRows.TheVariants as Q
+use Rattle.std.specs.Prelude.{Result, Ok}
+use Rattle.refusals.specs.declared.Refused.{Refused}
 use Rattle.randwyler.specs.Answers.{Ready}
 use Rattle.randwyler.proofs.Evaluations.{ready-seen, ready-node}
 
@@ -37,7 +38,7 @@ use Rattle.randwyler.proofs.Evaluations.{ready-seen, ready-node}
 
 module _ (g : Aggregation) (v : View) (t s : List ℕ) (ready : Ready v t s) where
   -- the answer is that of the query's tree
-  pub ready-answers : {words : ℕ} {out : List ℕ} {r : QueryRows} → Answers (aggregate g) (facts_in v t) (node_of s) words out r
+  pub ready-answers : {words : ℕ} {out : List ℕ} {r : Result QueryRows Refused} → Answers (aggregate g) (facts_in v t) (node_of s) words out r
       → Answers (aggregate g) (facts_in v t) (query_node s) words out r
   ready-answers {words} {out} {r} a =
       subst (λ (q : Node). Answers (aggregate g) (facts_in v t) q words out r) (ready-node v t s ready).1 a
@@ -49,8 +50,8 @@ module _ (g : Aggregation) (v : View) (t s : List ℕ) (ready : Ready v t s) whe
 
 -- ---- the rows
 
-module _ {g : Aggregate} {fs : List Fact} {q : Node} {words : ℕ} {out : List ℕ} {n p k : ℕ}
-    (formed : Every RowFormed (rows_over g fs q)) (a : Answers g fs q words out (Q.Rows n p k)) where
+module _ {g : Aggregate} {fs : List Fact} {q : Node} {words : ℕ} {out : List ℕ} {c : QueryRows}
+    (formed : Every RowFormed (rows_over g fs q)) (a : Answers g fs q words out (Ok c)) where
   abbrev rs : List Row
   rs = rows_over g fs q
 
@@ -60,10 +61,10 @@ module _ {g : Aggregate} {fs : List Fact} {q : Node} {words : ℕ} {out : List �
   answered-is : answer g fs q words ≡ answered_with g fs q words
   answered-is = answer-fits g fs q words (answer-passes g fs q words passed)
 
-  pub answered-count : n ≡ length rs
+  pub answered-count : c.rows ≡ length rs
   answered-count = ap (λ e. e.rows) (a.answer-is ∙ answered-is)
 
-  pub answered-few : n ≤ 65535
+  pub answered-few : c.rows ≤ 65535
   answered-few =
       omega (arith, answered-count, count-space-≤ (set_rows g fs) q, answer-passes g fs q words passed)
 
@@ -72,10 +73,10 @@ module _ {g : Aggregate} {fs : List Fact} {q : Node} {words : ℕ} {out : List �
       ap (take (row_length * length rs)) (ap (λ e. e.row_space) (a.answer-is ∙ answered-is))
       ∙ take_at (concat_map row_words rs) _ (row_length * length rs) (length-written rs formed)
 
-  pub answered-rows : rows_in n out ≡ rs
+  pub answered-rows : rows_in c.rows out ≡ rs
   answered-rows = rw answered-count (front-rows rs out formed front)
 
-  pub answered-held : RowsHeld n out
+  pub answered-held : RowsHeld c.rows out
   answered-held = rw answered-count (front-held rs out formed front)
 
 -- ---- of an answered evaluation

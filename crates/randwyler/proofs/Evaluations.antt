@@ -6,7 +6,7 @@ use Prim.Native.Nat.{ℕ, ◌≤◌}
 use borrow.Author.Tests.{eqb-false}
 use lib.ListN.{length}
 use Rattle.tsparql.specs.Table.{View, whole_table, facts_in}
-use Rattle.tsparql.specs.Check.{refuse, passes, check, evaluate_limit}
+use Rattle.tsparql.specs.Check.{passes, check, evaluate_limit}
 use Rattle.tsparql.specs.Reading.{query_node}
 use Rattle.tsparql.specs.PatternSets.{Aggregate, Aggregation, aggregate}
 use Rattle.tsparql.specs.Evaluate.{refused_with, answer}
@@ -18,7 +18,9 @@ use Rattle.query.proofs.Forest.{query-reads}
 use Rattle.patterns.specs.Sets.{Seen}
 use Rattle.evaluation.specs.Evaluations.{is_answered, answered_in, Answers}
 use Rattle.evaluation.specs.declared.QueryRows.{QueryRows}
-use Rattle.randwyler.specs.declared.CheckAnswer.TheVariants.{Refused}
+use Rattle.std.specs.Prelude.{Result, Err}
+use Rattle.refusals.specs.declared.Refused.{Refused}
+use Rattle.refusals.specs.Refusals.{refusal_of}
 use Rattle.randwyler.specs.Answers.{Checked, Ready}
 use Rattle.randwyler.proofs.Checks.{whole-seen}
 
@@ -40,7 +42,7 @@ abbrev pub answered : Aggregate → View → List ℕ → List ℕ → Tally →
 answered g v t s a words =
     let e = answer g (facts_in v t) (query_node s) words in record { evaluated = e; tally = tallied a e.refusal }
 
-pub counted : (g : Aggregate) (v : View) (t s : List ℕ) (a : Tally) (ws out : List ℕ) (r : QueryRows) → Ready v t s
+pub counted : (g : Aggregate) (v : View) (t s : List ℕ) (a : Tally) (ws out : List ℕ) (r : Result QueryRows Refused) → Ready v t s
     → Answers g (facts_in v t) (node_of s) (length ws) out r
     → record { evaluated = answered_in r out; tally = raise_one (is_answered r) a } ≡ answered g v t s a (length ws)
 unfolding tallied
@@ -52,8 +54,8 @@ counted g v t s a ws out r h e =
 
 -- ---- the call
 
-pub evaluate-refuses : (t s : List ℕ) (g : Aggregation) (ws : List ℕ) (a : Tally) {n p : ℕ} → Checked t s (Refused n p)
-    → ◌≡◌ {A = EvaluateAnswer} (record { evaluated = refused_with (refuse n p) ws; tally = raise_one false a }) (evaluate t s g ws a)
+pub evaluate-refuses : (t s : List ℕ) (g : Aggregation) (ws : List ℕ) (a : Tally) {r : Refused} → Checked t s (Err r)
+    → ◌≡◌ {A = EvaluateAnswer} (record { evaluated = refused_with (refusal_of r) ws; tally = raise_one false a }) (evaluate t s g ws a)
 unfolding tallied
 evaluate-refuses t s g ws a h =
     let no = sym h.sound in

@@ -21,28 +21,30 @@ use Rattle.tsparql.proofs.TotalsLaws.{after-refused, after-short, after-written}
 use Rattle.tsparql.proofs.TotalsLaws.{totals-check-refuses, totals-variable, totals-evaluated}
 use Rattle.rows.specs.RowWords.{rows_in, RowFormed}
 use Rattle.evaluation.specs.Evaluations.{Answers}
-use Rattle.evaluation.specs.declared.QueryRows.TheVariants as Q
+use Rattle.evaluation.specs.declared.QueryRows.{QueryRows}
+use Rattle.std.specs.Prelude.{Ok, Err}
+use Rattle.refusals.specs.declared.Refused.{Refused}
+use Rattle.refusals.specs.Refusals.{refusal_of}
 use Rattle.totals.specs.Entries.{entered, Entered}
-use Rattle.randwyler.specs.declared.CheckAnswer.TheVariants.{Refused}
 use Rattle.randwyler.specs.Answers.{Checked, Ready, no_totals, totals_checked}
 use Rattle.randwyler.proofs.AnsweredRows.{answered-rows}
 
 -- ---- a checked query
 
 -- it is refused
-pub totals-refused : (g : Aggregate) (fs : List Fact) (q : Node) (u words : ℕ) (a : Tally) (ws out : List ℕ) {n p : ℕ}
-    → Answers g fs q words ws (Q.Refused n p) → no_totals n p ws out a ≡ totals_checked g fs q u words out a
+pub totals-refused : (g : Aggregate) (fs : List Fact) (q : Node) (u words : ℕ) (a : Tally) (ws out : List ℕ) {r : Refused}
+    → Answers g fs q words ws (Err r) → no_totals (refusal_of r) ws out a ≡ totals_checked g fs q u words out a
 unfolding tallied
-totals-refused g fs q u words a ws out {n} {p} e =
+totals-refused g fs q u words a ws out {r} e =
     let es = totals_words u (rows_over g fs q) in
-    let no : passes (refuse n p) ≡ false = ap (λ y. passes y.refusal) e.answer-is ∙ sym e.sound in
-    let x = after-refused es out (refused_with (refuse n p) ws) (eqb-false n 0 no) in
+    let no : passes (refusal_of r) ≡ false = ap (λ y. passes y.refusal) e.answer-is ∙ sym e.sound in
+    let x = after-refused es out (refused_with (refusal_of r) ws) (eqb-false (refusal_of r).number 0 no) in
     rw (sym e.answer-is, x, no)
 
 -- it is answered, and the entries of its rows are told and, where they fit, written
-module _ {g : Aggregate} {fs : List Fact} {q : Node} {words : ℕ} {ws : List ℕ} {n p k : ℕ} (u : ℕ) (a : Tally) (out : List ℕ)
-    {out' : List ℕ} {m : ℕ} (formed : Every RowFormed (rows_over g fs q)) (e : Answers g fs q words ws (Q.Rows n p k))
-    (t : Entered u (rows_in n ws) out out' m) where
+module _ {g : Aggregate} {fs : List Fact} {q : Node} {words : ℕ} {ws : List ℕ} {c : QueryRows} (u : ℕ) (a : Tally) (out : List ℕ)
+    {out' : List ℕ} {m : ℕ} (formed : Every RowFormed (rows_over g fs q)) (e : Answers g fs q words ws (Ok c))
+    (t : Entered u (rows_in c.rows ws) out out' m) where
   abbrev es : List ℕ
   es = totals_words u (rows_over g fs q)
 
@@ -64,7 +66,7 @@ module _ {g : Aggregate} {fs : List Fact} {q : Node} {words : ℕ} {ws : List �
   abbrev counted : Totals → TotalsAnswer
   counted x = record { totals = x; tally = tallied a x.refusal }
 
-  pub totals-short : length out < m → no_totals 10 m ws out' a ≡ totals_checked g fs q u words out a
+  pub totals-short : length out < m → no_totals (refuse 10 m) ws out' a ≡ totals_checked g fs q u words out a
   unfolding tallied
   totals-short h =
       let less : length out < length es = rw size_is at h in
@@ -86,8 +88,8 @@ module _ {g : Aggregate} {fs : List Fact} {q : Node} {words : ℕ} {ws : List �
 
 -- ---- the call
 
-pub call-check-refuses : (t s : List ℕ) (g : Aggregation) (u : ℕ) (ws out : List ℕ) (a : Tally) {n p : ℕ} → Checked t s (Refused n p)
-    → no_totals n p ws out a ≡ totals_call t s g u ws out a
+pub call-check-refuses : (t s : List ℕ) (g : Aggregation) (u : ℕ) (ws out : List ℕ) (a : Tally) {r : Refused} → Checked t s (Err r)
+    → no_totals (refusal_of r) ws out a ≡ totals_call t s g u ws out a
 unfolding tallied
 call-check-refuses t s g u ws out a h =
     let no : passes (check t s) ≡ false = sym h.sound in
@@ -95,7 +97,7 @@ call-check-refuses t s g u ws out a h =
     rw (x, h.refusal, no)
 
 module _ (v : View) (t s : List ℕ) (g : Aggregation) (u : ℕ) (ws out : List ℕ) (a : Tally) (h : Ready v t s) where
-  pub call-variable : 15 < u → no_totals 10 0 ws out a ≡ totals_call t s g u ws out a
+  pub call-variable : 15 < u → no_totals (refuse 10 0) ws out a ≡ totals_call t s g u ws out a
   unfolding tallied
   call-variable l = rw (totals-variable (aggregate g) (whole_table t) t s u ws out h.passed l)
 

@@ -1,10 +1,10 @@
 -- The answers of the calls, in the definitions' terms. Assumes nothing.
-use Rattle.std.specs.Prelude.{◌≡◌, Bool, true, false, cond, List, ℕ, length}
+use Rattle.std.specs.Prelude.{◌≡◌, Bool, true, false, cond, List, ℕ, length, Result, Ok, Err, IfOk}
 use Rattle.tsparql.specs.Table as Table
 use Rattle.tsparql.specs.Table.{Fact, whole_table, facts_in}
 use Rattle.tsparql.specs.Query.{Node}
 use Rattle.tsparql.specs.Check as Check
-use Rattle.tsparql.specs.Check.{refuse, no_refusal, Passes, passes, check}
+use Rattle.tsparql.specs.Check.{refuse, Passes, passes, check}
 use Rattle.tsparql.specs.Rewrite as Rewrite
 use Rattle.tsparql.specs.Calls as Calls
 use Rattle.tsparql.specs.Calls.{raise_one, tallied}
@@ -14,9 +14,10 @@ use Rattle.tsparql.specs.Evaluate as Evaluate
 use Rattle.tsparql.specs.Evaluate.{refused_with, answer}
 use Rattle.tsparql.specs.PatternSets.{Aggregate, Aggregation, by_least, by_mean, rows_over}
 use Rattle.tsparql.specs.Reading.{query_node}
-use Rattle.table.specs.Answers.{no_records}
-use Rattle.randwyler.specs.declared.CheckAnswer.{CheckAnswer}
-use Rattle.randwyler.specs.declared.CheckAnswer.TheVariants.{Sound, Refused}
+use Rattle.refusals.specs.declared.Refused.{Refused}
+use Rattle.refusals.specs.Refusals as Refusals
+use Rattle.table.specs.declared.checked.Table as Code
+use Rattle.table.specs.Answers.{no_records, sound_in, view_in}
 use Rattle.randwyler.specs.declared.Refusal.{Refusal}
 use Rattle.randwyler.specs.declared.Rewritten.{Rewritten}
 use Rattle.randwyler.specs.declared.Ceiling.{Ceiling}
@@ -26,23 +27,12 @@ use Rattle.randwyler.specs.declared.Totalled.{Totalled}
 
 -- ---- the check of both
 
-abbrev pub sound_in : CheckAnswer → Bool
-sound_in (Sound v) = true
-sound_in (Refused n p) = false
-
-abbrev pub checked_in : CheckAnswer → Check.Refusal
-checked_in (Sound v) = no_refusal
-checked_in (Refused n p) = refuse n p
-
-abbrev pub view_in : CheckAnswer → Table.View
-view_in (Sound v) = record { records = v.records }
-view_in (Refused n p) = no_records
-
 -- the answer names the refusal of a table and a query, and lets a call see the whole table exactly where there is none
-pub record Checked (t s : List ℕ) (r : CheckAnswer) : Type 0 where
+pub record Checked (t s : List ℕ) (r : Result Code.Table Refused) : Type 0 where
   pub sound : sound_in r ≡ passes (check t s)
-  pub refusal : checked_in r ≡ check t s
+  pub refusal : Refusals.refusal_in r ≡ check t s
   pub view : view_in r ≡ cond (passes (check t s)) (whole_table t) no_records
+  pub bytes : IfOk r (λ x. x.bytes.now ≡ t)
 
 -- ---- the calls
 
@@ -78,9 +68,8 @@ evaluated_in r ws =
     }
 
 -- a refusal with all counts 0, counted as refused; the row space is whatever it is
-abbrev pub RefusedWith : ℕ → ℕ → Calls.Tally → Evaluated → Type 0
-RefusedWith n p a r =
-    (ws : List ℕ) → evaluated_in r ws ≡ record { evaluated = refused_with (refuse n p) ws; tally = raise_one false a }
+abbrev pub RefusedWith : Check.Refusal → Calls.Tally → Evaluated → Type 0
+RefusedWith n a r = (ws : List ℕ) → evaluated_in r ws ≡ record { evaluated = refused_with n ws; tally = raise_one false a }
 
 -- a table and a query that passed the check
 pub record Ready (v : Table.View) (t s : List ℕ) : Type 0 where
@@ -104,13 +93,12 @@ totals_in r ws out =
     }
 
 -- a refusal with length 0, counted as refused
-abbrev pub no_totals : ℕ → ℕ → List ℕ → List ℕ → Calls.Tally → Totals.TotalsAnswer
-no_totals n p ws out a =
-    record { totals = totals_refused (refuse n p) ws out; tally = raise_one false a }
+abbrev pub no_totals : Check.Refusal → List ℕ → List ℕ → Calls.Tally → Totals.TotalsAnswer
+no_totals n ws out a = record { totals = totals_refused n ws out; tally = raise_one false a }
 
 -- such an answer; row space and output are whatever they are
-abbrev pub TotalsRefusedWith : ℕ → ℕ → Calls.Tally → Totalled → Type 0
-TotalsRefusedWith n p a r = (ws out : List ℕ) → totals_in r ws out ≡ no_totals n p ws out a
+abbrev pub TotalsRefusedWith : Check.Refusal → Calls.Tally → Totalled → Type 0
+TotalsRefusedWith n a r = (ws out : List ℕ) → totals_in r ws out ≡ no_totals n ws out a
 
 -- the totals of a checked query in so many words of row space, counted by their refusal
 abbrev pub totals_checked : Aggregate → List Fact → Node → ℕ → ℕ → List ℕ → Calls.Tally → Totals.TotalsAnswer

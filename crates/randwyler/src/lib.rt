@@ -1,25 +1,27 @@
 // The calls. For C they stand in randwyler_c; their names and layouts are in include/randwyler.h.
 #![tactic(auto)]
 
-ghost use Rattle.std.specs.Prelude.{◌≡◌, true, false, ◌<◌};
-ghost use Rattle.tsparql.specs.Check.{refuse, check};
+ghost use Rattle.std.specs.Prelude.{◌≡◌, true, false, List, ℕ, ◌<◌};
+ghost use Rattle.tsparql.specs.Check.{check};
 ghost use Rattle.tsparql.specs.Rewrite as Rewrite;
 ghost use Rattle.tsparql.specs.Calls.{ceiling_call, ceiling_refused, raised, raise_one, evaluate};
 ghost use Rattle.tsparql.specs.Totals.{totals_call};
 ghost use Rattle.grammar.specs.ReadText.{read_text};
-ghost use Rattle.patterns.specs.Matching.{view_of};
+ghost use Rattle.refusals.specs.Refusals.{refusal_of, written_in};
+ghost use Rattle.table.specs.Answers.{view_of};
 ghost use Rattle.randwyler.specs.Answers.{Checked, refusal_in, rewritten_in, ceiling_in};
 ghost use Rattle.patterns.specs.Sets.{aggregation_of, aggregate_of};
 ghost use Rattle.randwyler.specs.Answers.{chosen, tally_in, evaluated_in, RefusedWith, Ready, Answered};
 ghost use Rattle.randwyler.specs.Answers.{totals_in, TotalsRefusedWith, TotalsAnswered};
 
-use ceiling::{CeilingRead, ceiling_node};
-use evaluation::{QueryRows, answer};
+use ceiling::ceiling_node;
+use evaluation::answer;
 use patterns::Aggregation;
-use reading::{ReadAnswer, read_text};
-use rewriting::{RewriteAnswer, rewrite};
-use scope::{QueryAnswer, check_query};
-use table::{TableAnswer, View, check_table};
+use reading::read_text;
+use refusals::Refused;
+use rewriting::rewrite;
+use scope::check_query;
+use table::{Table, check_table};
 use totals::total_rows;
 
 // The most bytes of a query that is evaluated.
@@ -29,24 +31,13 @@ const NO_REFUSAL: u32 = 0;
 // The length of what is written on a refusal.
 const NOTHING_WRITTEN: u64 = 0;
 
-// What a call sees of a sound table beside a sound query, or the first refusal.
-#[derive(Clone, Copy)]
-enum CheckAnswer {
-    Sound(View),
-    Refused { number: u32, place: usize },
-}
-
-// Refusals 1 to 4 of the table, then 5 to 7 of the query.
-fn check_both(table: &[u8], query: &[u8]) -> CheckAnswer
+// A sound table beside a sound query: refusals 1 to 4 of the table, then 5 to 7 of the query.
+fn check_both<'a>(table: &'a [u8], query: &[u8]) -> Result<Table<'a>, Refused>
     ensures { Checked table.now query.now result }
 {
-    match check_table(table) {
-        TableAnswer::Sound(view) => match check_query(query, EVALUATE_LIMIT) {
-            QueryAnswer::Sound => CheckAnswer::Sound(view),
-            QueryAnswer::Refused { number, place } => CheckAnswer::Refused { number, place },
-        },
-        TableAnswer::Refused { number, place } => CheckAnswer::Refused { number, place },
-    }
+    let checked = check_table(table)?;
+    check_query(query, EVALUATE_LIMIT)?;
+    Ok(checked)
 }
 
 // ---- check
@@ -64,13 +55,13 @@ pub fn randwyler_check(table: &[u8], query: &[u8]) -> Refusal
     ensures { refusal_in result ≡ check table.now query.now }
 {
     match check_both(table, query) {
-        CheckAnswer::Sound(_) => Refusal {
+        Ok(_) => Refusal {
             number: NO_REFUSAL,
             place: 0,
         },
-        CheckAnswer::Refused { number, place } => Refusal {
-            number,
-            place: place as u64,
+        Err(r) => Refusal {
+            number: r.number(),
+            place: r.place() as u64,
         },
     }
 }
@@ -86,22 +77,29 @@ pub struct Rewritten {
     pub length: u64,
 }
 
-// The rewriting of a query into a lent output: refusals 5 to 7 and 9. Past the result, and on a refusal, the output is unchanged.
-pub fn randwyler_rewrite(query: &[u8], output: &mut [u8]) -> Rewritten
-    ensures { rewritten_in result output.new ≡ Rewrite.rewrite query.now output.old }
+// The answer of a call that writes an output.
+fn written(r: Result<usize, Refused>) -> Rewritten
+    ensures { (out : List ℕ) → rewritten_in result out ≡ written_in r out }
 {
-    match rewrite(query, output) {
-        RewriteAnswer::Written(length) => Rewritten {
+    match r {
+        Ok(length) => Rewritten {
             number: NO_REFUSAL,
             place: 0,
             length: length as u64,
         },
-        RewriteAnswer::Refused { number, place } => Rewritten {
-            number,
-            place: place as u64,
+        Err(r) => Rewritten {
+            number: r.number(),
+            place: r.place() as u64,
             length: NOTHING_WRITTEN,
         },
     }
+}
+
+// The rewriting of a query into a lent output: refusals 5 to 7 and 9. Past the result, and on a refusal, the output is unchanged.
+pub fn randwyler_rewrite(query: &[u8], output: &mut [u8]) -> Rewritten
+    ensures { rewritten_in result output.new ≡ Rewrite.rewrite query.now output.old }
+{
+    written(rewrite(query, output))
 }
 
 // ---- typed queries
@@ -110,18 +108,7 @@ pub fn randwyler_rewrite(query: &[u8], output: &mut [u8]) -> Rewritten
 pub fn randwyler_read_text(text: &[u8], output: &mut [u8]) -> Rewritten
     ensures { rewritten_in result output.new ≡ read_text text.now output.old }
 {
-    match read_text(text, output) {
-        ReadAnswer::Written(written) => Rewritten {
-            number: NO_REFUSAL,
-            place: 0,
-            length: written as u64,
-        },
-        ReadAnswer::Refused { number, place } => Rewritten {
-            number,
-            place: place as u64,
-            length: NOTHING_WRITTEN,
-        },
-    }
+    written(read_text(text, output))
 }
 
 // ---- ceiling
@@ -135,12 +122,12 @@ pub struct Ceiling {
     pub ceiling: u32,
 }
 
-fn ceiling_refused(number: u32, place: usize) -> Ceiling
-    ensures { ceiling_in result ≡ ceiling_refused (refuse number place) }
+fn ceiling_refused(r: Refused) -> Ceiling
+    ensures { ceiling_in result ≡ ceiling_refused (refusal_of r) }
 {
     Ceiling {
-        number,
-        place: place as u64,
+        number: r.number(),
+        place: r.place() as u64,
         ceiling: 0,
     }
 }
@@ -149,12 +136,11 @@ fn ceiling_refused(number: u32, place: usize) -> Ceiling
 pub fn randwyler_ceiling_of(table: &[u8], query: &[u8]) -> Ceiling
     ensures { ceiling_in result ≡ ceiling_call table.now query.now }
 {
-    let c = check_both(table, query);
-    match c {
-        CheckAnswer::Refused { number, place } => ceiling_refused(number, place),
-        CheckAnswer::Sound(view) => match ceiling_node(table, view, query) {
-            CeilingRead::Refused { number, place } => ceiling_refused(number, place),
-            CeilingRead::Ceiling(ceiling, _) => Ceiling {
+    match check_both(table, query) {
+        Err(r) => ceiling_refused(r),
+        Ok(checked) => match ceiling_node(&checked, query) {
+            Err(f) => ceiling_refused(Refused::from(f)),
+            Ok((ceiling, _)) => Ceiling {
                 number: NO_REFUSAL,
                 place: 0,
                 ceiling,
@@ -189,7 +175,7 @@ pub struct Evaluated {
 fn one_more(n: u32) -> u32
     ensures { result ≡ raised n }
 {
-    if n < 4294967295 { n + 1 } else { n }
+    n.saturating_add(1)
 }
 
 fn with_answered(a: Tally) -> Tally
@@ -197,7 +183,7 @@ fn with_answered(a: Tally) -> Tally
 {
     Tally {
         answered: one_more(a.answered),
-        refused: a.refused,
+        ..a
     }
 }
 
@@ -205,23 +191,22 @@ fn with_refused(a: Tally) -> Tally
     ensures { tally_in result ≡ raise_one false (tally_in a) }
 {
     Tally {
-        answered: a.answered,
         refused: one_more(a.refused),
+        ..a
     }
 }
 
 // A refusal is counted as refused.
-fn evaluation_refused(number: u32, place: usize, a: Tally) -> Evaluated
-    ensures { RefusedWith number place (tally_in a) result }
+fn evaluation_refused(r: Refused, a: Tally) -> Evaluated
+    ensures { RefusedWith (refusal_of r) (tally_in a) result }
 {
-    let tally = with_refused(a);
     Evaluated {
-        number,
-        place: place as u64,
+        number: r.number(),
+        place: r.place() as u64,
         rows: 0,
         peak: 0,
         pairs: 0,
-        tally,
+        tally: with_refused(a),
     }
 }
 
@@ -238,25 +223,24 @@ fn chosen_aggregation(mean: bool) -> Aggregation
 
 // The answer to a checked query, counted in the tally.
 fn evaluate_checked(
-    table: &[u8],
-    view: View,
+    table: &Table<'_>,
     query: &[u8],
     space: &mut [u32],
     tally: Tally,
     g: Aggregation,
 ) -> Evaluated
-    requires { Ready (view_of view) table.now query.now }
-    ensures { Answered (aggregate_of g) (view_of view) table.now query.now (tally_in tally)
+    requires { Ready (view_of table.now.view) table.now.bytes.now query.now }
+    ensures { Answered (aggregate_of g) (view_of table.now.view) table.now.bytes.now query.now (tally_in tally)
         space.old space.new result }
 {
-    match answer(table, view, query, space, g) {
-        QueryRows::Refused { number, place } => evaluation_refused(number, place, tally),
-        QueryRows::Rows { rows, peak, pairs } => Evaluated {
+    match answer(table, query, space, g) {
+        Err(r) => evaluation_refused(r, tally),
+        Ok(counts) => Evaluated {
             number: NO_REFUSAL,
             place: 0,
-            rows,
-            peak,
-            pairs,
+            rows: counts.rows,
+            peak: counts.peak,
+            pairs: counts.pairs,
             tally: with_answered(tally),
         },
     }
@@ -275,10 +259,9 @@ pub fn randwyler_evaluate(
         ≡ evaluate table.now query.now (chosen mean) space.old (tally_in tally) }
 {
     let g = chosen_aggregation(mean);
-    let c = check_both(table, query);
-    match c {
-        CheckAnswer::Refused { number, place } => evaluation_refused(number, place, tally),
-        CheckAnswer::Sound(view) => evaluate_checked(table, view, query, space, tally, g),
+    match check_both(table, query) {
+        Err(r) => evaluation_refused(r, tally),
+        Ok(checked) => evaluate_checked(&checked, query, space, tally, g),
     }
 }
 
@@ -298,22 +281,20 @@ pub struct Totalled {
 }
 
 // A refusal is counted as refused.
-fn totals_refused(number: u32, place: usize, a: Tally) -> Totalled
-    ensures { TotalsRefusedWith number place (tally_in a) result }
+fn totals_refused(r: Refused, a: Tally) -> Totalled
+    ensures { TotalsRefusedWith (refusal_of r) (tally_in a) result }
 {
-    let tally = with_refused(a);
     Totalled {
-        number,
-        place: place as u64,
+        number: r.number(),
+        place: r.place() as u64,
         length: 0,
-        tally,
+        tally: with_refused(a),
     }
 }
 
 // The totals of a checked query, counted in the tally.
 fn totals_checked(
-    table: &[u8],
-    view: View,
+    table: &Table<'_>,
     query: &[u8],
     variable: usize,
     space: &mut [u32],
@@ -321,21 +302,16 @@ fn totals_checked(
     tally: Tally,
     g: Aggregation,
 ) -> Totalled
-    requires { Ready (view_of view) table.now query.now × (variable < 16) }
-    ensures { TotalsAnswered (aggregate_of g) (view_of view) table.now query.now variable
+    requires { Ready (view_of table.now.view) table.now.bytes.now query.now × (variable < 16) }
+    ensures { TotalsAnswered (aggregate_of g) (view_of table.now.view) table.now.bytes.now query.now variable
         space.old output.old (tally_in tally) space.new output.new result }
 {
-    let a = answer(table, view, query, space, g);
-    match a {
-        QueryRows::Refused { number, place } => totals_refused(number, place, tally),
-        QueryRows::Rows {
-            rows,
-            peak: _,
-            pairs: _,
-        } => {
-            let words = total_rows(space, rows as usize, variable, output);
+    match answer(table, query, space, g) {
+        Err(r) => totals_refused(r, tally),
+        Ok(counts) => {
+            let words = total_rows(space, counts.rows as usize, variable, output);
             if output.len() < words {
-                return totals_refused(10, words, tally);
+                return totals_refused(Refused::TotalsTooLong(words), tally);
             }
             Totalled {
                 number: NO_REFUSAL,
@@ -364,23 +340,17 @@ pub fn randwyler_totals_of(
         (chosen mean) variable space.old output.old (tally_in tally) }
 {
     let g = chosen_aggregation(mean);
-    let c = check_both(table, query);
-    match c {
-        CheckAnswer::Refused { number, place } => totals_refused(number, place, tally),
-        CheckAnswer::Sound(view) => {
-            if variable > LAST_VARIABLE {
-                return totals_refused(10, 0, tally);
-            }
-            totals_checked(
-                table,
-                view,
-                query,
-                variable as usize,
-                space,
-                output,
-                tally,
-                g,
-            )
-        }
+    match check_both(table, query) {
+        Err(r) => totals_refused(r, tally),
+        Ok(_) if variable > LAST_VARIABLE => totals_refused(Refused::NoSuchVariable, tally),
+        Ok(checked) => totals_checked(
+            &checked,
+            query,
+            variable as usize,
+            space,
+            output,
+            tally,
+            g,
+        ),
     }
 }

@@ -1,6 +1,7 @@
 -- The number and the place of a refusal, and the refusal of an answer. Assumes nothing.
-use Rattle.std.specs.Prelude.{ℕ, ◌+◌, Result, Ok, Err}
+use Rattle.std.specs.Prelude.{List, ℕ, ◌+◌, Result, Ok, Err}
 use Rattle.tsparql.specs.Check.{Refusal, refuse, no_refusal}
+use Rattle.tsparql.specs.Rewrite.{Rewritten, wrote_nothing}
 use Rattle.refusals.specs.declared.Refused.{Refused}
 use Rattle.refusals.specs.declared.Refused.TheVariants as R
 
@@ -24,6 +25,11 @@ refusal_of (R.QueryBytesTooLong n) = refuse 12 n
 abbrev pub refusal_in : {A : Type 0} → Result A Refused → Refusal
 refusal_in (Ok a) = no_refusal
 refusal_in (Err r) = refusal_of r
+
+-- refusal and length of an answer that writes an output, with the output at the end
+abbrev pub written_in : Result ℕ Refused → List ℕ → Rewritten
+written_in (Ok n) out = record { refusal = no_refusal; size = n; output = out }
+written_in (Err r) out = wrote_nothing (refusal_of r) out
 
 -- the place of a query's fault counted from so many bytes before; no other refusal has a place in the query's part
 abbrev pub moved : ℕ → Refused → Refused

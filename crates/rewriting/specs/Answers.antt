@@ -11,7 +11,7 @@ use Rattle.encoding.specs.Writers.{Wrote}
 use Rattle.refusals.specs.declared.Fault.{Fault}
 use Rattle.refusals.specs.declared.Refused.{Refused}
 use Rattle.refusals.specs.Reads.{found}
-use Rattle.refusals.specs.Refusals.{refusal_of}
+use Rattle.refusals.specs.Refusals.{written_in}
 
 -- ---- the push of a part
 
@@ -35,5 +35,4 @@ pub record Pushes (s : List ℕ) (b : TrustBound) (out out' : List ℕ) (r : Res
 
 -- refusal, length and output at the end
 abbrev pub rewritten_in : Result ℕ Refused → List ℕ → Rewrite.Rewritten
-rewritten_in (Ok n) out = record { refusal = no_refusal; size = n; output = out }
-rewritten_in (Err r) out = wrote_nothing (refusal_of r) out
+rewritten_in r out = written_in r out

@@ -1,20 +1,21 @@
 -- By the answer of the check of both, and that to a checked query. Assumes nothing.
-use mathlib.Core.Path.{◌∙◌}
+use mathlib.Core.Path.{ap, ◌∙◌}
+use Rattle.tsparql.specs.Calls.{evaluate}
 use Rattle.randwyler.specs.Answers.{chosen, tally_in}
 use Rattle.randwyler.proofs.Checks.{checked-ready}
 use Rattle.randwyler.proofs.Evaluations.{evaluate-refuses, evaluate-answers}
 use Rattle.randwyler.proofs.randwyler_evaluate.Goals as goal
 
-pub returns-in-Refused : goal.returns-in-Refused
-returns-in-Refused c =
+pub returns-in-Err : goal.returns-in-Err
+returns-in-Err c =
     let a = c.args in
     c.evaluation_refused.ensures a.space.now
-    ∙ evaluate-refuses a.table.now a.query.now (chosen a.mean) a.space.now (tally_in a.tally)
-    (rw c.in-Refused.is at c.check_both-c.ensures)
+    ∙ evaluate-refuses a.table.now a.query.now (chosen a.mean) a.space.now (tally_in a.tally) c.in-Err.ensures
 
-pub returns-in-Sound : goal.returns-in-Sound
-returns-in-Sound c =
+pub returns-in-Ok : goal.returns-in-Ok
+returns-in-Ok c =
     let a = c.args in
-    evaluate-answers _ a.table.now a.query.now (chosen a.mean) a.space.now (tally_in a.tally)
-    (checked-ready a.table.now a.query.now _ (rw c.in-Sound.is at c.check_both-c.ensures))
+    let checked = c.in-Ok.ensures in
+    evaluate-answers _ _ a.query.now (chosen a.mean) a.space.now (tally_in a.tally) (checked-ready _ _ _ checked)
     c.chosen_aggregation-g.ensures _ c.evaluate_checked.ensures
+    ∙ ap (λ t. evaluate t a.query.now (chosen a.mean) a.space.now (tally_in a.tally)) checked.bytes
