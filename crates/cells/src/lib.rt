@@ -46,7 +46,7 @@ pub fn trust_word(t: Trust) -> u32
     ensures { result ≡ trust_word (trust_in t) }
 {
     match t {
-        Trust::Known(t) => shifted(t),
+        Trust::Known(z) => shifted(z),
         Trust::Unknown => 2001,
     }
 }
