@@ -1,5 +1,5 @@
 -- A primary that begins with neither '!' nor '(': its first three words tell its bytes and how many words it has (`told`); what `operand`
--- answers at each of its returns (`operand-bound` to `operand-term`), and what that is of a primary (`operand-writes`). Assumes nothing.
+-- answers at each of its returns (`operand-less` to `operand-term`), and what that is of a primary (`operand-writes`). Assumes nothing.
 use mathlib.Core.Path.{◌≡◌, refl, sym, ap, ◌∙◌}
 use mathlib.Core.Bool.{false}
 use mathlib.Core.List.{List, [], ◌∷◌, ◌++◌}
@@ -77,9 +77,6 @@ module _ (t out out' : List ℕ) (i n r w op x : ℕ) (first : w ≡ get_or t i 
 
   answer : (size : ℕ) (bs : List ℕ) → size ≡ operand_words w → bs ≡ operand_bytes w op x → Adds bs → Answer size
   answer size bs e q a = record { behind = rw (sym first, e); bytes = rw (sym first, sym second, sym third, sym q) a }
-
-  pub operand-bound : w ≡ 66 → Adds (x % 16 ∷ []) → Answer 4
-  operand-bound b = let e = eq-eqb w 66 b in answer 4 _ (rw e) (rw e)
 
   module _ (no_bound : w ≡ 66 → ⊥) where
     pub operand-less : op ≡ 60 → Adds ((48 + w % 16) ∷ x % 16 ∷ []) → Answer 3

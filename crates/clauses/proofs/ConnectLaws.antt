@@ -15,7 +15,6 @@ use Rattle.words.specs.Words.{words}
 use Rattle.clauses.specs.Tails.{Tail, close, and_then, or_then, tail_tokens, or_with, or_bytes}
 use Rattle.clauses.specs.Clauses.{State, Wrote, Connects}
 use Rattle.clauses.specs.declared.Block.{Block}
-use Rattle.clauses.specs.declared.Clause.{Clause}
 use Rattle.words.proofs.WordLaws.{word_first, words-on, word-inside}
 use Rattle.clauses.proofs.TailLaws.{or_bytes_lem, operators, ends-least}
 
@@ -47,10 +46,6 @@ module _ {t : List ℕ} {rest : List Token} {final : Condition} {pre out : List 
       let means = ap (λ (c : Condition). length (condition_bytes c)) w.means in
       let least = ends-least w.later w.before w.conjunct in
       omega (arith, w.holds.size, w.room, length-append pre (or ++ bytes), length-append or bytes)
-
-pub connect-none :
-    (t out : List ℕ) (from and : ℕ) (b : Block) (r : Clause) → length t ≤ b.next → Connects t from out out and b r
-connect-none t out from and b r l rest final pre f w = absurd (omega (arith, (tail-first t b.next w.later rest w.written).1))
 
 module _ (t out out' : List ℕ) (from and n : ℕ) (b : Block) where
   pub connect-and :

@@ -30,34 +30,33 @@ fn operand(t: &[u32], i: usize, out: &mut [u8], n: usize) -> Block
     let w = word(t, i);
     let op = word(t, i + 1);
     let x = word(t, i + 2);
+    let left = (w % 16) as u8;
+    let right = (x % 16) as u8;
     if w == BOUND {
-        let m = append(out, n, (x % 16) as u8);
         return Block {
             next: i + 4,
-            len: m,
+            len: append(out, n, right),
         };
     }
+    let next = i + 3;
     if op == LESS {
-        let a = append(out, n, (48 + w % 16) as u8);
-        let m = append(out, a, (x % 16) as u8);
+        let a = append(out, n, 48 + left);
         return Block {
-            next: i + 3,
-            len: m,
+            next,
+            len: append(out, a, right),
         };
     }
     if x < FIRST_NUMBER {
-        let a = append(out, n, (16 + w % 16) as u8);
-        let m = append(out, a, (x % 16) as u8);
+        let a = append(out, n, 16 + left);
         return Block {
-            next: i + 3,
-            len: m,
+            next,
+            len: append(out, a, right),
         };
     }
-    let a = append(out, n, (32 + w % 16) as u8);
-    let m = append3(out, a, x);
+    let a = append(out, n, 32 + left);
     Block {
-        next: i + 3,
-        len: m,
+        next,
+        len: append3(out, a, x),
     }
 }
 
@@ -65,35 +64,22 @@ fn operand(t: &[u32], i: usize, out: &mut [u8], n: usize) -> Block
 fn connect(t: &[u32], out: &mut [u8], from: usize, and: usize, b: Block) -> Clause
     ensures { (b.next ≤ result.next) × Connects t.now from out.old out.new and b result }
 {
-    let i = b.next;
-    if t.len() <= i {
-        return Clause {
-            next: i,
+    let Block { next, len } = b;
+    match word(t, next) {
+        AND => Clause {
+            next: next + 1,
             and,
-            len: b.len,
-        };
-    }
-    let w = t[i];
-    if w == AND {
-        let n = put(out, and, b.len, 80);
-        return Clause {
-            next: i + 1,
-            and,
-            len: n,
-        };
-    }
-    if w == OR {
-        let n = put(out, from, b.len, 96);
-        return Clause {
-            next: i + 1,
-            and: n,
-            len: n,
-        };
-    }
-    Clause {
-        next: i,
-        and,
-        len: b.len,
+            len: put(out, and, len, 80),
+        },
+        OR => {
+            let len = put(out, from, len, 96);
+            Clause {
+                next: next + 1,
+                and: len,
+                len,
+            }
+        }
+        _ => Clause { next, and, len },
     }
 }
 
@@ -106,35 +92,30 @@ pub fn condition(t: &[u32], at: usize, out: &mut [u8], from: usize) -> Block
         and: from,
         len: from,
     };
-    loop {
+    while let Some(w) = t.get(s.next) {
         let i = s.next;
-        if t.len() <= i {
-            return Block {
-                next: i,
-                len: s.len,
-            };
-        }
-        let w = t[i];
-        if w == RPAREN {
-            return Block {
+        match *w {
+            RPAREN => return Block {
                 next: i + 1,
                 len: s.len,
-            };
-        }
-        if w == NOT {
-            let n = append(out, s.len, 64);
-            let and = s.and;
-            s = Clause {
+            },
+            NOT => s = Clause {
                 next: i + 1,
-                and,
-                len: n,
-            };
-        } else if w == LPAREN {
-            let b = condition(t, i + 1, out, s.len);
-            s = connect(t, out, from, s.and, b);
-        } else {
-            let b = operand(t, i, out, s.len);
-            s = connect(t, out, from, s.and, b);
+                len: append(out, s.len, 64),
+                ..s
+            },
+            LPAREN => {
+                let b = condition(t, i + 1, out, s.len);
+                s = connect(t, out, from, s.and, b);
+            }
+            _ => {
+                let b = operand(t, i, out, s.len);
+                s = connect(t, out, from, s.and, b);
+            }
         }
+    }
+    Block {
+        next: s.next,
+        len: s.len,
     }
 }

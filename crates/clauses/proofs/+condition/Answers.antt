@@ -1,5 +1,7 @@
 -- The loop's invariant `Conditioning` at its start, over each primary, and at the closing parenthesis. Assumes nothing.
 use native.Mathlib.Omega.{arith}
+use mathlib.Core.Path.{◌≡◌}
+use lib.ListN.{get_or}
 use borrow.Author.Rules.{rules}
 use Rattle.blocks.proofs.Holding.{appends}
 use Rattle.clauses.specs.declared.Block.{Block}
@@ -7,31 +9,37 @@ use Rattle.clauses.proofs.ConditionLaws.{conditioning-first, conditioning-none, 
 use Rattle.clauses.proofs.ConditionLaws.{conditioning-not, conditioning-parens, conditioning-operand}
 use Rattle.clauses.proofs.+condition.Goals as goal
 
-pub loop-s-init : goal.loop-s-init
-loop-s-init t c = conditioning-first _ _ _ _
+pub loop-w-init : goal.loop-w-init
+loop-w-init t c = conditioning-first _ _ _ _
 
-pub returns-then-t-i : goal.returns-then-t-i
-returns-then-t-i t c =
-    let turn = c.loop-s in
+pub returns-in-41 : goal.returns-in-41
+returns-in-41 t c =
+    let turn = c.loop-w in
+    let forward = turn.invariant.forward in
+    let w : get_or c.args.t.now turn.s.next 0 ≡ 41 = search rules in
+    (omega arith, conditioning-end turn.invariant w)
+
+pub loop-w-preserved-in-33 : goal.loop-w-preserved-in-33
+loop-w-preserved-in-33 t c =
+    let turn = c.loop-w in
+    let w : get_or c.args.t.now turn.s.next 0 ≡ 33 = search rules in
+    conditioning-not turn.invariant _ _ w c.append.auto.out (appends _ c.append.ensures)
+
+pub loop-w-preserved-in-40 : goal.loop-w-preserved-in-40
+loop-w-preserved-in-40 t c =
+    let turn = c.loop-w in
+    let w : get_or c.args.t.now turn.s.next 0 ≡ 40 = search rules in
+    conditioning-parens turn.invariant _ _ _ _ c.condition-b.auto.out c.connect-s.auto.out c.connect-s.ensures w c.condition-b.ensures
+
+pub loop-w-preserved : goal.loop-w-preserved
+loop-w-preserved t c =
+    let turn = c.loop-w in
+    let w : get_or c.args.t.now turn.s.next 0 ≡ c.in-Some.w.now = search rules in
+    conditioning-operand turn.invariant _ _ _ _ c.operand-b.auto.out c.connect-s-in_default-w.auto.out c.connect-s-in_default-w.ensures
+    (λ e. omega arith) (λ e. omega arith) (λ e. omega arith) c.operand-b.ensures
+
+pub returns : goal.returns
+returns t c =
+    let turn = c.loop-w in
     let answer : Block = record { next = turn.s.next; len = turn.s.len } in
     (turn.invariant.forward, conditioning-none turn.invariant answer (search rules))
-
-pub returns-then-w-eq-RPAREN : goal.returns-then-w-eq-RPAREN
-returns-then-w-eq-RPAREN t c =
-    let turn = c.loop-s in
-    let forward = turn.invariant.forward in
-    (omega arith, conditioning-end turn.invariant c.if-w-eq-RPAREN.true)
-
-pub loop-s-preserved-then-w-eq-NOT : goal.loop-s-preserved-then-w-eq-NOT
-loop-s-preserved-then-w-eq-NOT t c =
-    conditioning-not c.loop-s.invariant _ _ c.if-w-eq-NOT.true c.append-n.auto.out (appends _ c.append-n.ensures)
-
-pub loop-s-preserved-then-w-eq-LPAREN : goal.loop-s-preserved-then-w-eq-LPAREN
-loop-s-preserved-then-w-eq-LPAREN t c =
-    conditioning-parens c.loop-s.invariant _ _ _ _ c.condition-b.auto.out c.connect-s.auto.out c.connect-s.ensures
-    c.if-w-eq-LPAREN.true c.condition-b.ensures
-
-pub loop-s-preserved : goal.loop-s-preserved
-loop-s-preserved t c =
-    conditioning-operand c.loop-s.invariant _ _ _ _ c.operand-b.auto.out c.connect-s-else-w-eq-LPAREN.auto.out
-    c.connect-s-else-w-eq-LPAREN.ensures c.if-w-eq-NOT.false c.if-w-eq-LPAREN.false c.if-w-eq-RPAREN.false c.operand-b.ensures

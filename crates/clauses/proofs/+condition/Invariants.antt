@@ -7,8 +7,8 @@ use Rattle.clauses.proofs.+condition.Given as goal
 abbrev pub decreases-condition : goal.decreases-condition
 decreases-condition l = length l.t.now - l.at
 
-abbrev pub invariant-loop-s : goal.invariant-loop-s
-invariant-loop-s l = Conditioning l.t l.at l.from l.initial.out l.out l.s
+abbrev pub invariant-loop-w : goal.invariant-loop-w
+invariant-loop-w l = Conditioning l.t l.at l.from l.initial.out l.out l.s
 
-abbrev pub decreases-loop-s : goal.decreases-loop-s
-decreases-loop-s l = length l.t - l.s.next
+abbrev pub decreases-loop-w : goal.decreases-loop-w
+decreases-loop-w l = length l.t - l.s.next

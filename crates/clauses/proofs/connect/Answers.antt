@@ -1,23 +1,19 @@
 -- By the word behind the primary: each return is one law. Assumes nothing.
+use mathlib.Core.Path.{sym, ◌∙◌}
+use native.Mathlib.Omega.{arith}
 use Rattle.blocks.proofs.Holding.{puts}
-use Rattle.clauses.proofs.ConnectLaws.{connect-none, connect-and, connect-or, connect-end}
-use borrow.Author.Rules.{rules}
+use Rattle.clauses.proofs.ConnectLaws.{connect-and, connect-or, connect-end}
 use Rattle.clauses.proofs.connect.Goals as goal
 
-pub returns-then-t-i : goal.returns-then-t-i
-returns-then-t-i c = (search rules, connect-none _ _ _ _ _ _ (search rules))
+pub returns-in-38 : goal.returns-in-38
+returns-in-38 c =
+    (omega arith, connect-and _ _ _ _ _ _ c.args.b (sym c.word.ensures ∙ c.in-38.is) (puts _ c.put.ensures) c.put.auto.out)
 
-pub returns-then-w-eq-AND : goal.returns-then-w-eq-AND
-returns-then-w-eq-AND c =
-    let b = c.args.b in
-    (search rules, connect-and _ _ _ _ _ _ b c.if-w-eq-AND.true (puts _ c.put-n.ensures) c.put-n.auto.out)
+pub returns-in-124 : goal.returns-in-124
+returns-in-124 c =
+    (omega arith, connect-or _ _ _ _ _ _ c.args.b (sym c.word.ensures ∙ c.in-124.is) (puts _ c.put-len.ensures) c.put-len.auto.out)
 
-pub returns-then-w-eq-OR : goal.returns-then-w-eq-OR
-returns-then-w-eq-OR c =
-    let b = c.args.b in
-    (search rules, connect-or _ _ _ _ _ _ b c.if-w-eq-OR.true (puts _ c.put-n-then-w-eq-OR.ensures) c.put-n-then-w-eq-OR.auto.out)
-
-pub returns : goal.returns
-returns c =
-    let b = c.args.b in
-    (search rules, connect-end _ _ _ _ b c.if-w-eq-AND.false c.if-w-eq-OR.false)
+pub returns-in_default : goal.returns-in_default
+returns-in_default c =
+    let w = c.word.ensures in
+    (omega arith, connect-end _ _ _ _ c.args.b (λ e. omega arith) (λ e. omega arith))
