@@ -5,13 +5,12 @@ use mathlib.Core.Bool.{Bool, true, false}
 use mathlib.Core.List.{List}
 use Prim.Native.Nat.{ℕ, ◌+◌, ◌-◌, ◌*◌, ◌/◌, ◌%◌, ◌≤◌, ◌<◌}
 use native.Mathlib.Omega.{arith}
-use borrow.Author.Tests.{eqb-true, eqb-false, leb-true, leb-false}
-use lib.Dec.{eqb, leb}
+use borrow.Author.Tests.{eqb-true, eqb-false}
+use lib.Dec.{eqb}
 use lib.ListN.{length, get_or, set, replicate, length-set, length-replicate, get_or-replicate}
 use lib.Seq.{get_or-set_same, get_or-set_other}
 use Rattle.rows.specs.RowWords.{word_of}
-use Rattle.totals.specs.Numbers.{FoundBefore}
-use Rattle.totals.specs.Chains.{bucket_count, most_rows, bucket, bucket_at, LastIn, Linked, Chained}
+use Rattle.totals.specs.Chains.{bucket_count, most_rows, bucket, bucket_at, LastIn, Chained}
 
 -- ---- buckets
 
@@ -101,41 +100,3 @@ pub record SearchedTo (u i x : ℕ) (ws : List ℕ) (c : ℕ) : Type 0 where
   pub within : c ≤ i
   pub hit : 0 < c → bucket_at u (c - 1) ws ≡ bucket x
   pub none : (k : ℕ) → c ≤ k → k < i → word_of u k ws ≡ x → ⊥
-
-module _ (u i x : ℕ) (ws : List ℕ) where
-  -- from the last row of the bucket on
-  pub searched-none : (c : ℕ) → LastIn u (bucket x) i ws c → SearchedTo u i x ws c
-  searched-none c l = record { within = l.within; hit = l.hit; none = λ k p q e. l.over k p q (ap bucket e) }
-
-  -- a row that has another word: on to the row that it links to
-  pub searched-more : (links : List ℕ) (c : ℕ) → Linked u i ws links → SearchedTo u i x ws c → 0 < c → (word_of u (c - 1) ws ≡ x → ⊥)
-      → SearchedTo u i x ws (get_or links (c - 1) 0)
-  searched-more links c linked s pos differ =
-      record {
-        within = omega (arith, last.within, s.within);
-        hit = last.hit;
-        none = λ k p q e. go k p q e (leb c k) refl (eqb k (c - 1)) refl;
-      }
-    where
-      last : LastIn u (bucket x) (c - 1) ws (get_or links (c - 1) 0)
-      last = rw (s.hit pos) at (linked (c - 1) (omega (arith, s.within)))
-
-      -- k is behind c, or row c itself, or before it
-      go : (k : ℕ) → get_or links (c - 1) 0 ≤ k → k < i → word_of u k ws ≡ x → (t : Bool) → leb c k ≡ t → (b : Bool) → eqb k (c - 1) ≡ b → ⊥
-      go k p q e true f b g = s.none k (leb-true c k f) q e
-      go k p q e false f true g = differ (rw (eqb-true k (c - 1) g) at e)
-      go k p q e false f false g =
-          let less = leb-false c k f in
-          let z = eqb-false k (c - 1) g in
-          last.over k p (omega arith) (ap bucket e)
-
-  -- which is before it
-  pub searched-less : (links : List ℕ) (c : ℕ) → Linked u i ws links → SearchedTo u i x ws c → 0 < c → get_or links (c - 1) 0 < c
-  searched-less links c linked s pos = omega (arith, (linked (c - 1) (omega (arith, s.within))).within)
-
-  pub searched-found : (c : ℕ) → SearchedTo u i x ws c → 0 < c → word_of u (c - 1) ws ≡ x → FoundBefore u i x ws c
-  searched-found c s h e = record { within = s.within; found = λ _. e; missing = λ z. absurd (omega arith) }
-
-  pub searched-all : (c : ℕ) → SearchedTo u i x ws c → c ≤ 0 → FoundBefore u i x ws 0
-  searched-all c s h =
-      record { within = omega arith; found = λ l. absurd (omega arith); missing = λ _ k b e. s.none k (omega arith) b e }

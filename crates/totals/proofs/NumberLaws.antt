@@ -1,11 +1,12 @@
 -- Numbering rows by their cells: words and cells; one row more; and the loop over all rows (`NumberedTo`). Assumes nothing.
 use mathlib.Core.Path.{◌≡◌, refl, sym, ap, ◌∙◌}
-use mathlib.Core.Bool.{Bool, true, false, cond}
+use mathlib.Core.Bool.{Bool, true, false}
 use mathlib.Core.List.{List, [], ◌∷◌, ◌++◌}
-use Prim.Native.Nat.{ℕ, ◌+◌, ◌-◌, ◌≤◌, ◌<◌}
+use Prim.Native.Nat.{ℕ, ◌+◌, ◌≤◌, ◌<◌}
 use native.Mathlib.Nat.{not-suc-le-zero}
 use native.Mathlib.Omega.{arith}
 use borrow.Author.Tests.{eqb-true, eqb-false, ne_eqb}
+use Rattle.std.specs.Prelude.{Some, None}
 use lib.Dec.{eqb}
 use lib.ListN.{length, get_or, set, length-append, length-map, length-set, get_or-append, get_or-eq_default, get_or-map}
 use lib.Seq.{get_or-set_same, get_or-set_other, get_or_at}
@@ -21,7 +22,7 @@ use Rattle.cells.proofs.WordLaws.{cell-read-written}
 use Rattle.rows.specs.RowWords.{words_at, row_at, word_of, rows_in, RowsHeld}
 use Rattle.rows.proofs.RowWordLaws.{length-rows_in, rows_in-suc, get_d-rows_in, cell_at-row_in, get_d-words_at, held-row}
 use Rattle.rows.proofs.OperatorLaws.{held-at-cell-small}
-use Rattle.totals.specs.Numbers.{cells_in, FoundBefore, number_from, NumberOf, Numbered, Numbers}
+use Rattle.totals.specs.Numbers.{cells_in, FoundBefore, NumberOf, Numbered}
 use Rattle.totals.specs.Chains.{Chained}
 
 -- ---- words and cells
@@ -182,19 +183,6 @@ module _ {u : ℕ} {ws numbers : List ℕ} {i k : ℕ} (n : ℕ) (held : RowsHel
       old.0
       (rw more (old.1 ∙ same))
 
-  -- by the row found
-  pub numbering-more : (r s k' : ℕ) → FoundBefore u i (word_of u i ws) ws r → s ≡ number_from numbers r k → k' ≡ cond (eqb r 0) (k + 1) k
-      → Numbering u ws (set numbers i s) (i + 1) k'
-  numbering-more r s k' f e d = go (eqb r 0) refl e d
-    where
-      go : (b : Bool) → eqb r 0 ≡ b → s ≡ cond b k (get_or numbers (r - 1) 0) → k' ≡ cond b (k + 1) k
-          → Numbering u ws (set numbers i s) (i + 1) k'
-      go true t e d = rw (e, d) (numbering-new (f.missing (eqb-true r 0 t)))
-      go false t e d =
-          let z = eqb-false r 0 t in
-          let pos : 0 < r = omega arith in
-          rw (e, d) (numbering-old (r - 1) (omega (arith, f.within)) (f.found pos))
-
 -- ---- the loop
 
 -- after i of n rows: they are numbered, and chained
@@ -210,18 +198,25 @@ numbered-none u n ws numbers heads links c =
     record { within = omega arith; len = refl; is = numbering-none u ws numbers; chains = c }
 
 module _ {u n : ℕ} {ws first : List ℕ} {i k : ℕ} {numbers heads links : List ℕ} where
-  pub numbered_more : RowsHeld n ws → u < 16 → i < n → n ≤ length first → NumberedTo u n ws first i k numbers heads links
-      → (r s k' : ℕ) (heads' links' : List ℕ) → FoundBefore u i (word_of u i ws) ws r → Chained u (i + 1) ws heads' links'
-      → s ≡ number_from numbers r k → k' ≡ cond (eqb r 0) (k + 1) k → NumberedTo u n ws first (i + 1) k' (set numbers i s) heads' links'
-  numbered_more held inside h room a r s k' heads' links' f c e d =
-      record {
-        within = omega arith;
-        len = length-set numbers i s ∙ a.len;
-        is = numbering-more n held inside h (omega (arith, a.len)) a.is r s k' f e d;
-        chains = c;
-      }
+  module _ (held : RowsHeld n ws) (inside : u < 16) (h : i < n) (room : n ≤ length first) (a : NumberedTo u n ws first i k numbers heads links)
+      {heads' links' : List ℕ} (c : Chained u (i + 1) ws heads' links') where
+    -- a row before has its cell
+    pub numbered_old : (m : ℕ) → FoundBefore u i (word_of u i ws) ws (Some m)
+        → NumberedTo u n ws first (i + 1) k (set numbers i (get_or numbers m 0)) heads' links'
+    numbered_old m f =
+        record {
+          within = omega arith;
+          len = length-set numbers i (get_or numbers m 0) ∙ a.len;
+          is = numbering-old n held inside h (omega (arith, a.len)) a.is m f.0 f.1;
+          chains = c;
+        }
 
-  pub numbered-all : NumberedTo u n ws first i k numbers heads links → n ≤ i → Numbers u n ws numbers k
-  numbered-all a h =
-      let e : i ≡ n = omega (arith, a.within) in
-      record { count = rw e at a.is.count; each = rw e at a.is.each }
+    -- none has
+    pub numbered_new : FoundBefore u i (word_of u i ws) ws None → NumberedTo u n ws first (i + 1) (k + 1) (set numbers i k) heads' links'
+    numbered_new f =
+        record {
+          within = omega arith;
+          len = length-set numbers i k ∙ a.len;
+          is = numbering-new n held inside h (omega (arith, a.len)) a.is f;
+          chains = c;
+        }

@@ -1,6 +1,6 @@
 -- The rows of a row space numbered by their cell of a variable: equal cells have equal numbers, counted in order of first appearance.
 -- Assumes nothing.
-use Rattle.std.specs.Prelude.{◌≡◌, false, cond, List, map, ℕ, ◌-◌, ◌≤◌, ◌<◌, eqb, length, get_or}
+use Rattle.std.specs.Prelude.{◌≡◌, false, List, map, Option, Some, None, ℕ, ◌≤◌, ◌<◌, length, get_or}
 use Rattle.tsparql.specs.Lists.{any_pass, distinct_by}
 use Rattle.tsparql.specs.Values.{Cell, same_cell}
 use Rattle.tsparql.specs.Totals.{cell_of}
@@ -10,11 +10,10 @@ use Rattle.rows.specs.RowWords.{row_at, word_of, rows_in}
 abbrev pub cells_in : ℕ → ℕ → List ℕ → List Cell
 cells_in u n ws = map (cell_of u) (rows_in n ws)
 
--- a row before row i that has the word x for variable u, plus 1; 0 where there is none
-pub record FoundBefore (u i x : ℕ) (ws : List ℕ) (r : ℕ) : Type 0 where
-  pub within : r ≤ i
-  pub found : 0 < r → word_of u (r - 1) ws ≡ x
-  pub missing : r ≡ 0 → (k : ℕ) → k < i → word_of u k ws ≡ x → ⊥
+-- a row before row i that has the word x for variable u; none where there is none
+abbrev pub FoundBefore : ℕ → ℕ → ℕ → List ℕ → Option ℕ → Type 0
+FoundBefore u i x ws (Some m) = (m < i) × (word_of u m ws ≡ x)
+FoundBefore u i x ws None = (m : ℕ) → m < i → word_of u m ws ≡ x → ⊥
 
 -- s is the number of a cell c that comes after the cells cs: the place of c among the different ones, or the next place
 pub record NumberOf (cs : List Cell) (c : Cell) (s : ℕ) : Type 0 where
@@ -30,7 +29,3 @@ Numbered u n ws numbers = (i : ℕ) → i < n → NumberOf (cells_in u i ws) (ce
 pub record Numbers (u n : ℕ) (ws numbers : List ℕ) (r : ℕ) : Type 0 where
   pub count : r ≡ length (distinct_by same_cell (cells_in u n ws))
   pub each : Numbered u n ws numbers
-
--- the number of the row found before, or the next number where none was
-abbrev pub number_from : List ℕ → ℕ → ℕ → ℕ
-number_from numbers found next = cond (eqb found 0) next (get_or numbers (found - 1) 0)

@@ -2,11 +2,11 @@
 // first, so that the length is known before anything is written; then each joins the entry of its number.
 #![tactic(auto)]
 
-ghost use Rattle.std.specs.Prelude.{◌≡◌, ◌+◌, ◌*◌, ◌≤◌, ◌<◌, cond, eqb, length, replicate};
+ghost use Rattle.std.specs.Prelude.{◌≡◌, ◌+◌, ◌*◌, ◌≤◌, ◌<◌, length};
 ghost use Rattle.tsparql.specs.Totals.{totals_words};
 ghost use Rattle.rows.specs.RowWords.{rows_in, word_of, RowsHeld};
-ghost use Rattle.totals.specs.Numbers.{FoundBefore, number_from, Numbered, Numbers};
-ghost use Rattle.totals.specs.Chains.{bucket_count, most_rows, bucket, LastIn, Linked, Chained};
+ghost use Rattle.totals.specs.Numbers.{FoundBefore, Numbered, Numbers};
+ghost use Rattle.totals.specs.Chains.{most_rows, bucket, LastIn, Linked, Chained};
 ghost use Rattle.totals.specs.Entries.{Addable, Added, entered, Entered};
 
 use rows::lesser_word;
@@ -21,24 +21,31 @@ fn bucket_of(x: u32) -> usize
     (w + w / 65536 * 40503) % 65536
 }
 
-// A row before row i that has the word x for variable u, plus 1; 0 where none has. The search begins at the last row of x's chain.
-fn find_before(space: &[u32], i: usize, u: usize, x: u32, last: usize, links: &[u16]) -> usize
+// A row before row i that has the word x for variable u. The search begins at the last row of x's chain.
+fn find_before(space: &[u32], i: usize, u: usize, x: u32, last: u16, links: &[u16]) -> Option<usize>
     requires { (17 * i ≤ length space.now) × (u < 16) × (i ≤ length links.now) × LastIn u (bucket x) i space.now last
         × Linked u i space.now links.now }
     ensures { FoundBefore u i x space.now result }
 {
-    let mut c = last;
+    let mut c = usize::from(last);
     while 0 < c {
-        if space[17 * (c - 1) + u] == x {
-            return c;
+        let row = c - 1;
+        if space[17 * row + u] == x {
+            return Some(row);
         }
-        c = links[c - 1] as usize;
+        c = usize::from(links[row]);
     }
-    0
+    None
 }
 
-// Puts row i in front of its chain. Answers a row before it that has its word for variable u, plus 1; 0 where none has.
-fn chain_row(space: &[u32], i: usize, u: usize, heads: &mut [u16], links: &mut [u16]) -> usize
+// Puts row i in front of its chain. Answers a row before it that has its word for variable u.
+fn chain_row(
+    space: &[u32],
+    i: usize,
+    u: usize,
+    heads: &mut [u16],
+    links: &mut [u16],
+) -> Option<usize>
     requires { (17 * i + 17 ≤ length space.now) × (u < 16) × (i < most_rows) × Chained u i space.now heads.old links.old }
     ensures { FoundBefore u i (word_of u i space.now) space.now result
         × Chained u (i + 1) space.now heads.new links.new }
@@ -46,7 +53,7 @@ fn chain_row(space: &[u32], i: usize, u: usize, heads: &mut [u16], links: &mut [
     let x = space[17 * i + u];
     let b = bucket_of(x);
     let last = heads[b];
-    let found = find_before(space, i, u, x, last as usize, links);
+    let found = find_before(space, i, u, x, last, links);
     links[i] = last;
     heads[b] = (i + 1) as u16;
     found
@@ -54,46 +61,22 @@ fn chain_row(space: &[u32], i: usize, u: usize, heads: &mut [u16], links: &mut [
 
 // ---- numbers
 
-// The number of the row found, or the next number where none was.
-fn number_of(numbers: &[u16], found: usize, next: usize) -> u16
-    requires { (found ≤ length numbers.now) × (next < 65536) }
-    ensures { result ≡ number_from numbers.now found next }
-{
-    if found == 0 {
-        return next as u16;
-    }
-    numbers[found - 1]
-}
-
-// How many numbers are in use once a row is numbered.
-fn in_use(found: usize, next: usize) -> usize
-    requires { next < 65536 }
-    ensures { result ≡ cond (eqb found 0) (next + 1) next }
-{
-    if found == 0 { next + 1 } else { next }
-}
-
 // Numbers the first n rows by their cells of variable u. Answers how many different cells there are.
-fn number_rows(
-    space: &[u32],
-    n: usize,
-    u: usize,
-    numbers: &mut [u16],
-    heads: &mut [u16],
-    links: &mut [u16],
-) -> usize
-    requires { RowsHeld n space.now × (u < 16) × (n ≤ most_rows) × (n ≤ length numbers.old)
-        × (heads.old ≡ replicate bucket_count 0) × (length links.old ≡ most_rows) }
+fn number_rows(space: &[u32], n: usize, u: usize, numbers: &mut [u16]) -> usize
+    requires { RowsHeld n space.now × (u < 16) × (n ≤ most_rows) × (n ≤ length numbers.old) }
     ensures { Numbers u n space.now numbers.new result }
 {
-    let mut i = 0;
+    let mut heads = [0; 65536];
+    let mut links = [0; 65535];
     let mut k = 0;
-    while i < n {
-        let found = chain_row(space, i, u, heads, links);
-        let number = number_of(numbers, found, k);
-        numbers[i] = number;
-        k = in_use(found, k);
-        i += 1;
+    for i in 0..n {
+        match chain_row(space, i, u, &mut heads, &mut links) {
+            Some(row) => numbers[i] = numbers[row],
+            None => {
+                numbers[i] = k as u16;
+                k += 1;
+            }
+        }
     }
     k
 }
@@ -113,10 +96,8 @@ fn add_row(out: &mut [u32], k: usize, s: usize, x: u32, t: u32) -> usize
         out[at + 2] = t;
         return k + 1;
     }
-    let n = out[at + 1];
-    let w = lesser_word(out[at + 2], t);
-    out[at + 1] = n + 1;
-    out[at + 2] = w;
+    out[at + 1] += 1;
+    out[at + 2] = lesser_word(out[at + 2], t);
     k
 }
 
@@ -126,12 +107,10 @@ fn write_entries(space: &[u32], n: usize, u: usize, numbers: &[u16], out: &mut [
         × (length (totals_words u (rows_in n space.now)) ≤ length out.old) }
     ensures { out.new ≡ entered u (rows_in n space.now) out.old }
 {
-    let mut i = 0;
     let mut k = 0;
-    while i < n {
-        let s = numbers[i] as usize;
+    for i in 0..n {
+        let s = usize::from(numbers[i]);
         k = add_row(out, k, s, space[17 * i + u], space[17 * i + 16]);
-        i += 1;
     }
 }
 
@@ -140,10 +119,8 @@ pub fn total_rows(space: &[u32], n: usize, u: usize, out: &mut [u32]) -> usize
     requires { RowsHeld n space.now × (u < 16) × (n ≤ most_rows) }
     ensures { Entered u (rows_in n space.now) out.old out.new result }
 {
-    let mut numbers = [0u16; 65535];
-    let mut heads = [0u16; 65536];
-    let mut links = [0u16; 65535];
-    let words = 3 * number_rows(space, n, u, &mut numbers, &mut heads, &mut links);
+    let mut numbers = [0; 65535];
+    let words = 3 * number_rows(space, n, u, &mut numbers);
     if out.len() < words {
         return words;
     }
