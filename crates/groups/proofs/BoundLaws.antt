@@ -2,7 +2,7 @@
 -- (`bound-turn`); the value of a bound's word. Assumes nothing.
 use mathlib.Core.Path.{◌≡◌, refl, sym, ap, ◌∙◌, subst}
 use mathlib.Core.List.{List, [], ◌∷◌, ◌++◌}
-use Prim.Native.Nat.{ℕ, ◌+◌, ◌*◌, ◌-◌, ◌%◌, ◌≤◌, ◌<◌}
+use Prim.Native.Nat.{ℕ, ◌+◌, ◌*◌, ◌≤◌}
 use native.Mathlib.Omega.{arith}
 use lib.ListN.{length, drop, get_or, length-append}
 use borrow.Author.Tests.{lt-ltb, le-ltb}
@@ -16,8 +16,9 @@ use Rattle.blocks.proofs.Holding.{prepends}
 use Rattle.words.specs.Words.{thousandths_word}
 use Rattle.words.proofs.WordLaws.{word_at}
 use Rattle.groups.specs.Passes.{bound_in}
-use Rattle.groups.proofs.Fronts.{Walks, k_bound, View, at_bound, first_word, view-at, view-over, next_item}
-use Rattle.groups.proofs.Passing.{Made, Turn, item_word}
+use Rattle.groups.proofs.Fronts.{k_bound, View, at_bound, first_word, view-at, view-over, next_item}
+use Rattle.groups.specs.Items.{Walks, item_word}
+use Rattle.groups.proofs.Passing.{Made, Turn}
 
 pub bounded-nil : (x : Node) → bounded x [] ≡ x
 unfolding bounded
@@ -45,12 +46,6 @@ bounded-least (a_projection v ∷ is) x = bounded-least is x
 bounded-least (a_bound l u ∷ is) x = let h = bounded-least is (ensure_trust l u x) in omega arith
 
 -- ---- the value of a bound
-
-pub thousands-plus : (w : ℕ) → w < 4194304 → 1000 + w % 1048576 % 1001 ≡ bound_in w
-thousands-plus w h = sym (rw (lt-ltb w 4194304 h))
-
-pub thousands-minus : (w : ℕ) → 4194304 ≤ w → 1000 - w % 1048576 % 1001 ≡ bound_in w
-thousands-minus w h = sym (rw (le-ltb w 4194304 h))
 
 -- it is the one whose word it is
 bound-value : (l : Thousandths) → bound_in (thousandths_word l) ≡ value_of l

@@ -17,7 +17,8 @@ use Rattle.clauses.specs.Clauses.{Conditions}
 use Rattle.clauses.specs.declared.Block.{Block}
 use Rattle.groups.specs.Passes.{conjoin_filters, some_bytes}
 use Rattle.groups.proofs.Fronts.{k_filter, View, at_filter, view-at}
-use Rattle.groups.proofs.Passing.{Made, Turn, item_word}
+use Rattle.groups.specs.Items.{item_word}
+use Rattle.groups.proofs.Passing.{Made, Turn}
 
 pub filters-nil : (o : Option Condition) → conjoin_filters o [] ≡ o
 unfolding filters conjoined

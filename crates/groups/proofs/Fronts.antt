@@ -23,14 +23,7 @@ use Rattle.words.proofs.WordLaws.{word-inside}
 use Rattle.words.specs.Words.{words, slot_word, thousandths_word}
 use Rattle.words.specs.Links.{behind_of}
 use Rattle.words.proofs.Balance.{slot-large, behind-condition, behind-body}
-use Rattle.groups.specs.Items.{Follows, Items}
-
--- the words ws are those of a body with the items is, where further groups of a UNION, which have no item of their own, may stand before
-pub record Walks (ws : List ℕ) (is : List Item) (rest : List Token) : Type 0 where
-  pub unions : Unions
-  pub tail : List Token
-  pub written : ws ≡ words (unions_tokens unions tail)
-  pub follows : Follows tail is rest
+use Rattle.groups.specs.Items.{Follows, Items, Walks}
 
 pub items-walks : {ws : List ℕ} {is : List Item} {rest : List Token} → Items ws is rest → Walks ws is rest
 items-walks i = record { unions = none; tail = i.tail; written = i.written; follows = i.follows }

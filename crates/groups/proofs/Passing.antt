@@ -1,20 +1,20 @@
--- Any pass over a group's items, of which f x is is what it makes of x: what it has made at a place (`Made`, `Making`), and how it goes on
--- over an item that it uses (`making-on`) or leaves alone (`making-skip`). Assumes nothing.
+-- Any pass over a group's items, of which f x is is what it makes of x: what it has made at a place (`Made`, `Making`), how it goes on over
+-- an item that it uses (`making-on`), and over items that it leaves alone to the next one (`making-at`) or to the end (`making-end`).
+-- Assumes nothing.
 use mathlib.Core.Path.{◌≡◌, refl, sym, ap, ◌∙◌, subst}
 use mathlib.Core.Bool.{true}
 use mathlib.Core.List.{List, [], ◌∷◌, ◌++◌}
-use Prim.Native.Nat.{ℕ, ◌+◌, ◌≤◌, ◌<◌}
+use Prim.Native.Nat.{ℕ, ◌+◌, ◌≤◌}
 use native.Mathlib.Omega.{arith}
-use lib.ListN.{length, drop, get_or}
+use lib.ListN.{length, drop}
 use Rattle.grammar.specs.Tokens.{Token}
 use Rattle.grammar.specs.Grammar.{Body}
-use Rattle.grammar.specs.Meaning.{Item, a_triple, a_group, an_optional, a_filter, a_projection, a_bound, items}
+use Rattle.grammar.specs.Meaning.{Item, items}
 use Rattle.blocks.specs.Blocks.{Holds}
-use Rattle.words.proofs.WordLaws.{word_first}
+use Rattle.groups.proofs.Fronts.{items-walks, body-items}
+use Rattle.groups.specs.Items.{Walks, item_word, Skips, skips_none, skips_one, Seeks}
 use Rattle.groups.specs.Passes.{BodyAt, Makes}
-use Rattle.groups.proofs.Fronts.{Walks, Kind, k_end, View, left, next_item}
-use Rattle.groups.proofs.Fronts.{at_end, at_dot, at_union, at_triple, at_group, at_optional, at_filter, at_projection, at_bound}
-use Rattle.groups.proofs.Fronts.{items-walks, body-items, first_word, view-at, view-inside, view-over}
+use Rattle.std.proofs.Common.{Some, None}
 
 -- y has become `now` by the items before the place i, and will be z
 pub record Made
@@ -51,26 +51,6 @@ module _ (S : Type 0) (f : S → List Item → S) (bytes : S → List ℕ) (t : 
             record { later = items b; now = x; walks = items-walks (body-items t at b rest w); makes = refl; holds = h };
       }
 
-  -- the words do not end before the closing brace
-  pub making-none :
-      (out : List ℕ) (i n r : ℕ) → length t ≤ i → Making S f bytes t at from n₀ out₀ out i n → Makes S f bytes t at from out₀ out n₀ r
-  making-none out i n r l m b rest pre x w e h room =
-      let d = m.stands b rest pre x w e h room in
-      absurd (omega (arith, view-inside t i d.later rest d.walks))
-
-  pub making-end :
-      (out : List ℕ) (i n : ℕ) → get_or t i 0 ≡ 125 → ((x : S) → f x [] ≡ x) → Making S f bytes t at from n₀ out₀ out i n
-      → Makes S f bytes t at from out₀ out n₀ n
-  making-end out i n c nil m b rest pre x w e h room =
-      let d = m.stands b rest pre x w e h room in
-      go d (view-at t i 125 d.later rest c d.walks)
-    where
-      go : (d : Made S f bytes t rest pre (f x (items b)) out i n) → View (drop i t) d.later rest k_end
-          → Holds out (pre ++ bytes (f x (items b))) n
-      go d (at_end p q) =
-          let done : d.now ≡ f x (items b) = sym (nil d.now) ∙ ap (λ (l : List Item). f d.now l) (sym q) ∙ d.makes in
-          subst (λ (y : S). Holds out (pre ++ bytes y) n) done d.holds
-
   pub making-on :
       (out out' : List ℕ) (i j n n' : ℕ) → length out' ≡ length out → Turn S f bytes t from out out' i j n n'
       → Making S f bytes t at from n₀ out₀ out i n → Making S f bytes t at from n₀ out₀ out' j n'
@@ -87,51 +67,28 @@ module _ (S : Type 0) (f : S → List Item → S) (bytes : S → List ℕ) (t : 
             record { later = c.later; now = c.now; walks = c.walks; makes = c.makes ∙ d.makes; holds = c.holds });
       }
 
-  pub making-skip :
-      (out : List ℕ) (i j n : ℕ) → (get_or t i 0 ≡ 125 → ⊥) → drop j t ≡ next_item (drop i t)
-      → ((y : S) (is : List Item) (rest : List Token) (κ : Kind) (v : View (drop i t) is rest κ) → f y (left v) ≡ f y is)
-      → Making S f bytes t at from n₀ out₀ out i n → Making S f bytes t at from n₀ out₀ out j n
-  making-skip out i j n c s skips m =
-      making-on out out i j n n refl
-      (λ is rest pre y w e h r.
-      let v = view-at t i (get_or t i 0) is rest refl w in
-      record {
-        later = left v;
-        now = y;
-        walks = subst (λ (l : List ℕ). Walks l (left v) rest) (sym s) (view-over v (λ q. c (sym (first_word t i) ∙ q)));
-        makes = skips y is rest _ v;
-        holds = h;
-      })
-      m
+  -- items that begin with other words than w are left alone
+  module _ (w : ℕ) (over : (y : S) (x : Item) (is : List Item) → (item_word x ≡ w → ⊥) → f y is ≡ f y (x ∷ is)) where
+    skipped : (y : S) {later is : List Item} → Skips w later is → f y later ≡ f y is
+    skipped y skips_none = refl
+    skipped y (skips_one x is other more) = skipped y more ∙ over y x is other
 
--- ---- items that a pass leaves alone
+    pub making-at :
+        (out : List ℕ) (i j n : ℕ) → Seeks w t i (Some j) → Making S f bytes t at from n₀ out₀ out i n → Making S f bytes t at from n₀ out₀ out j n
+    making-at out i j n seeks m =
+        record {
+          same = m.same;
+          stands =
+              λ b rest pre x begins e h r.
+              (let d = m.stands b rest pre x begins e h r in
+              let s = seeks.3 d.later rest d.walks in
+              record { later = s.0; now = d.now; walks = s.1; makes = skipped d.now s.2 ∙ d.makes; holds = d.holds });
+        }
 
--- the first word of an item; any word from 256 on begins a triple
-abbrev pub item_word : Item → ℕ
-item_word (a_triple p) = 256
-item_word (a_group n) = 123
-item_word (an_optional c n) = 79
-item_word (a_filter c) = 70
-item_word (a_projection v) = 84
-item_word (a_bound l u) = 69
-
--- a pass that uses only items with the word w leaves alone what begins with another one
-module _ {S : Type 0} (f : S → List Item → S) (w : ℕ) (h : w < 256)
-    (over : (y : S) (x : Item) (is : List Item) → (item_word x ≡ w → ⊥) → f y is ≡ f y (x ∷ is)) (t : List ℕ) (i : ℕ) where
-  other :
-      (y : S) (x : Item) (is later : List Item) (ws : List ℕ) → drop i t ≡ item_word x ∷ ws → is ≡ x ∷ later → (get_or t i 0 ≡ w → ⊥)
-      → f y later ≡ f y is
-  other y x is later ws e q m = over y x later (λ z. m (word_first t ws i _ e ∙ z)) ∙ sym (ap (f y) q)
-
-  pub skips :
-      (get_or t i 0 ≡ 125 → ⊥) → (get_or t i 0 ≡ w → ⊥) → (y : S) (is : List Item) (rest : List Token) (κ : Kind)
-      (v : View (drop i t) is rest κ) → f y (left v) ≡ f y is
-  skips n m y is rest κ (at_end e q) = absurd (n (word_first t _ i _ e))
-  skips n m y is rest κ (at_dot ts e g) = refl
-  skips n m y is rest κ (at_union b us ts e g) = refl
-  skips n m y is rest κ (at_triple a b c ts later e q g) = over y _ later (λ z. omega arith) ∙ sym (ap (f y) q)
-  skips n m y is rest κ (at_group b us ts later e q g) = other y _ is later _ e q m
-  skips n m y is rest κ (at_optional b ts later e q g) = other y _ is later _ e q m
-  skips n m y is rest κ (at_filter d ts later e q g) = other y _ is later _ e q m
-  skips n m y is rest κ (at_projection v ts later e q g) = other y _ is later _ e q m
-  skips n m y is rest κ (at_bound l u ts later e q g) = other y _ is later _ e q m
+    pub making-end :
+        (out : List ℕ) (i n : ℕ) → ((x : S) → f x [] ≡ x) → Seeks w t i None → Making S f bytes t at from n₀ out₀ out i n
+        → Makes S f bytes t at from out₀ out n₀ n
+    making-end out i n nil seeks m b rest pre x begins e h room =
+        let d = m.stands b rest pre x begins e h room in
+        let done : d.now ≡ f x (items b) = sym (nil d.now) ∙ skipped d.now (seeks d.later rest d.walks) ∙ d.makes in
+        subst (λ (y : S). Holds out (pre ++ bytes y) n) done d.holds

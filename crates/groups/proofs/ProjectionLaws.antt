@@ -10,8 +10,9 @@ use Rattle.tsparql.specs.Writing.{node_bytes}
 use Rattle.grammar.specs.Meaning.{Item, a_triple, a_group, an_optional, a_filter, a_projection, a_bound, projected}
 use Rattle.blocks.specs.Blocks.{Holds, Puts}
 use Rattle.words.proofs.WordLaws.{word_at}
-use Rattle.groups.proofs.Fronts.{Walks, k_projection, View, at_projection, first_word, view-at, view-over, next_item}
-use Rattle.groups.proofs.Passing.{Made, Turn, item_word}
+use Rattle.groups.proofs.Fronts.{k_projection, View, at_projection, first_word, view-at, view-over, next_item}
+use Rattle.groups.specs.Items.{Walks, item_word}
+use Rattle.groups.proofs.Passing.{Made, Turn}
 
 pub projected-nil : (x : Node) → projected x [] ≡ x
 unfolding projected

@@ -1,41 +1,19 @@
--- From one item to the next: the place that `step` answers by the word at a place (`step-..`), and what stands there (`next_place_lem`).
--- Assumes nothing.
+-- From one item to the next: the place that `step` answers goes forward (`next-forward`), and what stands there (`next_place_lem`). Assumes
+-- nothing.
 use mathlib.Core.Path.{◌≡◌, sym, ap, ◌∙◌}
 use mathlib.Core.Bool.{Bool, true, false, cond, ◌||◌}
 use mathlib.Core.List.{List}
-use Prim.Native.Nat.{ℕ, ◌+◌, ◌≤◌, ◌<◌}
+use Prim.Native.Nat.{ℕ, ◌+◌, ◌<◌}
 use native.Mathlib.Omega.{arith}
 use lib.Dec.{eqb, leb}
 use lib.ListN.{drop, get_or}
 use lib.Seq.{drop-drop}
-use borrow.Author.Tests.{ne_eqb, le-leb, lt-leb}
 use Rattle.words.specs.Links.{behind_of, closing}
 use Rattle.words.proofs.LinkLaws.{closing-forward, closing-behind}
-use Rattle.groups.specs.Items.{place_by, next_place}
+use Rattle.groups.specs.Items.{next_place}
 use Rattle.groups.proofs.Fronts.{next_by, next_item, first_word}
 
 module _ (t : List ℕ) (i : ℕ) where
-  -- ---- by the word
-
-  pub step_by : (w : ℕ) → get_or t i 0 ≡ w → place_by w t i ≡ next_place t i
-  unfolding next_place
-  step_by w e = ap (λ (n : ℕ). place_by n t i) (sym e)
-
-  pub step-triple : 256 ≤ get_or t i 0 → i + 3 ≡ next_place t i
-  unfolding next_place
-  step-triple h = sym (rw (le-leb 256 (get_or t i 0) h))
-
-  -- a dot, or a word that begins no item
-  pub step_other :
-      get_or t i 0 < 256 → (get_or t i 0 ≡ 84 → ⊥) → (get_or t i 0 ≡ 69 → ⊥) → (get_or t i 0 ≡ 123 → ⊥) → (get_or t i 0 ≡ 70 → ⊥)
-      → (get_or t i 0 ≡ 79 → ⊥) → (get_or t i 0 ≡ 85 → ⊥) → i + 1 ≡ next_place t i
-  unfolding next_place
-  step_other h a b c d e f =
-      let w = get_or t i 0 in
-      sym (rw (lt-leb 256 w h, ne_eqb w 84 a, ne_eqb w 69 b, ne_eqb w 123 c, ne_eqb w 70 d, ne_eqb w 79 e, ne_eqb w 85 f))
-
-  -- ---- what the place says
-
   abbrev chosen : Bool → Bool → Bool → Bool → ℕ
   chosen a b c d = cond a (i + 3) (cond b (i + 7) (cond c (closing t (i + 1)) (cond d (closing t (i + 2)) (i + 1))))
 
