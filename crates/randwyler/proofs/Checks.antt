@@ -8,7 +8,6 @@ use borrow.Author.Tests.{eqb-true}
 use Rattle.tsparql.specs.Check.{Passes, table_refusal, check}
 use Rattle.tsparql.specs.Table.{whole_table}
 use Rattle.tsparql.specs.Calls.{ceiling_refused, ceiling_answered, ceiling_over, ceiling_call}
-use Rattle.tsparql.proofs.QueryLaws.{check-parts}
 use Rattle.table.specs.Answers as TableAnswers
 use Rattle.std.specs.Prelude.{Ok, Err}
 use Rattle.refusals.specs.declared.Fault.{Fault}

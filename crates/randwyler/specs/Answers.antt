@@ -1,5 +1,5 @@
 -- The answers of the calls, in the definitions' terms. Assumes nothing.
-use Rattle.std.specs.Prelude.{◌≡◌, Bool, true, false, cond, List, ℕ, length, Result, Ok, Err, IfOk}
+use Rattle.std.specs.Prelude.{◌≡◌, Bool, true, false, cond, List, ℕ, length, Result, IfOk}
 use Rattle.tsparql.specs.Table as Table
 use Rattle.tsparql.specs.Table.{Fact, whole_table, facts_in}
 use Rattle.tsparql.specs.Query.{Node}

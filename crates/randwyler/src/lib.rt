@@ -32,7 +32,7 @@ const NO_REFUSAL: u32 = 0;
 const NOTHING_WRITTEN: u64 = 0;
 
 // A sound table beside a sound query: refusals 1 to 4 of the table, then 5 to 7 of the query.
-fn check_both<'a>(table: &'a [u8], query: &[u8]) -> Result<Table<'a>, Refused>
+fn check_both<'a>(table: &'a [u8], query: &'a [u8]) -> Result<Table<'a>, Refused>
     ensures { Checked table.now query.now result }
 {
     let checked = check_table(table)?;
@@ -343,14 +343,6 @@ pub fn randwyler_totals_of(
     match check_both(table, query) {
         Err(r) => totals_refused(r, tally),
         Ok(_) if variable > LAST_VARIABLE => totals_refused(Refused::NoSuchVariable, tally),
-        Ok(checked) => totals_checked(
-            &checked,
-            query,
-            variable as usize,
-            space,
-            output,
-            tally,
-            g,
-        ),
+        Ok(checked) => totals_checked(&checked, query, variable as usize, space, output, tally, g),
     }
 }

@@ -1,6 +1,6 @@
 -- The call by what the scan answers: a text that is too long (`call_long`), one with a fault (`call-fault`), and one whose tokens have
 -- words, which were written (`finishes`, `call-tokens`). Assumes nothing.
-use mathlib.Core.Path.{◌≡◌, refl, sym, ap, ◌∙◌, subst}
+use mathlib.Core.Path.{◌≡◌, refl, sym, ap, ◌∙◌}
 use mathlib.Core.Bool.{Bool, true, false}
 use mathlib.Core.List.{List}
 use Prim.Native.Nat.{ℕ, ◌≤◌, ◌<◌}
@@ -10,30 +10,25 @@ use lib.ListN.{length, take, length-map, length-take}
 use borrow.Author.Tests.{ltb-true, ltb-false, le-ltb}
 use Rattle.grammar.specs.Grammar.{Query, Derives}
 use Rattle.grammar.specs.Meaning.{meaning_bytes}
-use Rattle.grammar.specs.Automaton.{fault, read}
 use Rattle.grammar.specs.Promise.{text_limit}
 use Rattle.grammar.specs.ReadText.{text_refusal, read_text}
 use Rattle.grammar.proofs.Reading.{derives-read}
 use Rattle.grammar.proofs.TextCalls.{promise}
 use Rattle.words.specs.Words.{token_word, words}
 use Rattle.lexer.specs.Steps.{Scans}
-use Rattle.lexer.specs.declared.Scanned.{Scanned}
-use Rattle.lexer.specs.declared.Scanned.TheVariants as R
+use Rattle.refusals.specs.declared.Fault.{Fault}
 use Rattle.reading.specs.Answers.{read_in, delivered, Writes, Finishes}
-use Rattle.reading.specs.declared.ReadAnswer.{ReadAnswer}
-use Rattle.reading.specs.declared.ReadAnswer.TheVariants as A
+use Rattle.std.specs.Prelude.{Result, Ok, Err}
+use Rattle.refusals.specs.declared.Refused.{Refused}
+use Rattle.refusals.specs.declared.Refused.TheVariants as R
 
-pub call_long : (s out : List ℕ) → text_limit < length s → read_in (A.Refused 11 4096) out ≡ read_text s out
+pub call_long : (s out : List ℕ) → text_limit < length s → read_in (Err (R.TextFault 4096)) out ≡ read_text s out
 call_long s out h = sym ((promise s out).long h)
 
-pub call-fault :
-    (s out ws : List ℕ) (r : Scanned) (p : ℕ) → r ≡ R.Fault p → length s ≤ text_limit → Scans s ws r
-    → read_in (A.Refused 11 p) out ≡ read_text s out
+pub call-fault : (s out ws : List ℕ) (f : Fault) → length s ≤ text_limit → Scans s ws (Err f)
+    → read_in (Err (R.TextFault f.0)) out ≡ read_text s out
 unfolding read_text text_refusal
-call-fault s out ws r p x h f = sym (go (subst (λ (q : Scanned). Scans s ws q) x f))
-  where
-    go : read s ≡ fault p → read_text s out ≡ read_in (A.Refused 11 p) out
-    go e = rw (le-ltb text_limit (length s) h, e)
+call-fault s out ws f h e = sym (rw (le-ltb text_limit (length s) h, e))
 
 -- a text with a derivation is answered by its meaning's bytes
 call-derived : (s out : List ℕ) (q : Query) → length s ≤ text_limit → Derives q s → read_text s out ≡ delivered (meaning_bytes q) out
@@ -43,18 +38,15 @@ call-derived s out q h d = go (ltb (length out) (length (meaning_bytes q))) refl
     go true e = (promise s out).short h q d (ltb-true (length out) (length (meaning_bytes q)) e) ∙ sym (rw e)
     go false e = (promise s out).derived h q d (ltb-false (length out) (length (meaning_bytes q)) e) ∙ sym (rw e)
 
-pub finishes : (ws : List ℕ) (n : ℕ) (out out' : List ℕ) (r : ReadAnswer) → Writes (take n ws) out out' r → Finishes ws n out out' r
+pub finishes : (ws : List ℕ) (n : ℕ) (out out' : List ℕ) (r : Result ℕ Refused) → Writes (take n ws) out out' r → Finishes ws n out out' r
 finishes ws n out out' r writes s ts h e w z =
     let d = derives-read s ts e in
     writes d.0 (w ∙ ap words (sym d.1)) ∙ sym (call-derived s out d.0 h d.2)
 
 -- there are no fewer words than tokens
-pub finishes-none : (ws : List ℕ) (n : ℕ) (out : List ℕ) → length ws < n → Finishes ws n out out (A.Written 0)
+pub finishes-none : (ws : List ℕ) (n : ℕ) (out : List ℕ) → length ws < n → Finishes ws n out out (Ok 0)
 finishes-none ws n out h s ts l e w z = absurd (omega (arith, ap length w, length-map ts token_word, length-take n ws))
 
-pub call-tokens :
-    (s out out' ws : List ℕ) (r : Scanned) (n : ℕ) (a : ReadAnswer) → r ≡ R.Tokens n → length s ≤ text_limit → Scans s ws r
+pub call-tokens : (s out out' ws : List ℕ) (n : ℕ) (a : Result ℕ Refused) → length s ≤ text_limit → Scans s ws (Ok n)
     → Finishes ws n out out' a → read_in a out' ≡ read_text s out
-call-tokens s out out' ws r n a x h f g =
-    let t = subst (λ (q : Scanned). Scans s ws q) x f in
-    g s t.0 h t.1 t.2 t.3
+call-tokens s out out' ws n a h t g = g s t.0 h t.1 t.2 t.3

@@ -17,8 +17,9 @@ use Rattle.clauses.specs.declared.Block.{Block}
 use Rattle.groups.specs.Passes.{Filters}
 use Rattle.parser.specs.Stages.{Gathers}
 use Rattle.reading.specs.Answers.{read_in, Delivers, Renders, Writes}
-use Rattle.reading.specs.declared.ReadAnswer.{ReadAnswer}
-use Rattle.reading.specs.declared.ReadAnswer.TheVariants as A
+use Rattle.std.specs.Prelude.{Result, Ok, Err}
+use Rattle.refusals.specs.declared.Refused.{Refused}
+use Rattle.refusals.specs.declared.Refused.TheVariants as R
 
 pub renders :
     (t out out₁ out₂ : List ℕ) (b : Block) (n : ℕ) → length out₁ ≡ length out → length out₂ ≡ length out₁ → Gathers t 1 0 out out₁ b
@@ -36,19 +37,19 @@ renders t out out₁ out₂ b n same same₂ gather filter q e room =
 
 -- ---- into the output
 
-pub delivers-short : (buffer : List ℕ) (n : ℕ) (out : List ℕ) → length out < n → Delivers buffer n out out (A.Refused 12 n)
+pub delivers-short : (buffer : List ℕ) (n : ℕ) (out : List ℕ) → length out < n → Delivers buffer n out out (Err (R.QueryBytesTooLong n))
 delivers-short buffer n out h bs held =
     let s = held.size in
     let l : length out < length bs = omega arith in
-    ap (λ (m : ℕ). read_in (A.Refused 12 m) out) s ∙ sym (rw (lt-ltb (length out) (length bs) l))
+    ap (λ (m : ℕ). read_in (Err (R.QueryBytesTooLong m)) out) s ∙ sym (rw (lt-ltb (length out) (length bs) l))
 
 -- no buffer holds more than it has
-pub delivers-none : (buffer : List ℕ) (n : ℕ) (out : List ℕ) → length buffer < n → Delivers buffer n out out (A.Written 0)
+pub delivers-none : (buffer : List ℕ) (n : ℕ) (out : List ℕ) → length buffer < n → Delivers buffer n out out (Ok 0)
 delivers-none buffer n out h bs held = absurd (omega (arith, holds-within buffer bs n held))
 
 pub delivers-all :
     (buffer : List ℕ) (n : ℕ) (out out' part : List ℕ) (k : ℕ) → n ≤ length out → part ≡ take n buffer → k ≡ length part
-    → out' ≡ take (length part) part ++ drop (length part) out → Delivers buffer n out out' (A.Written k)
+    → out' ≡ take (length part) part ++ drop (length part) out → Delivers buffer n out out' (Ok k)
 delivers-all buffer n out out' part k h p e q bs held =
     let s = held.size in
     let l : length bs ≤ length out = omega arith in
@@ -57,11 +58,11 @@ delivers-all buffer n out out' part k h p e q bs held =
     q
     ∙ ap (λ (x : List ℕ). take (length x) x ++ drop (length x) out) so
     ∙ ap (λ (x : List ℕ). x ++ drop (length bs) out) (take-length bs) in
-    ap (λ (m : ℕ). read_in (A.Written m) out') (e ∙ ap length so)
-    ∙ ap (λ (x : List ℕ). read_in (A.Written (length bs)) x) written
+    ap (λ (m : ℕ). read_in (Ok m) out') (e ∙ ap length so)
+    ∙ ap (λ (x : List ℕ). read_in (Ok (length bs)) x) written
     ∙ sym (rw (le-ltb (length out) (length bs) l))
 
 pub writes :
-    (t buffer out out' : List ℕ) (n : ℕ) (r : ReadAnswer) → length t ≤ 4096 → length buffer ≡ 16384 → Renders t buffer n
+    (t buffer out out' : List ℕ) (n : ℕ) (r : Result ℕ Refused) → length t ≤ 4096 → length buffer ≡ 16384 → Renders t buffer n
     → Delivers buffer n out out' r → Writes t out out' r
 writes t buffer out out' n r h e render deliver q w = deliver (meaning_bytes q) (render q w (omega arith))

@@ -7,19 +7,13 @@ ghost use Rattle.words.specs.Links.{Linked};
 ghost use Rattle.reading.specs.Answers.{read_in, Renders, Delivers, Writes, Finishes};
 
 use groups::filtered;
-use lexer::{Scanned, scan};
+use lexer::scan;
 use parser::gather;
+use refusals::Refused;
 use words::link;
 
 // The most bytes of a text.
 const TEXT_LIMIT: usize = 4096;
-
-// So many bytes were written, or nothing.
-#[derive(Clone, Copy)]
-pub enum ReadAnswer {
-    Written(usize),
-    Refused { number: u32, place: usize },
-}
 
 // The query's bytes at the front of a buffer, and how many they are.
 fn render(t: &[u32], buffer: &mut [u8], ends: &[u16]) -> usize
@@ -31,24 +25,21 @@ fn render(t: &[u32], buffer: &mut [u8], ends: &[u16]) -> usize
 }
 
 // The first n bytes of a buffer into the output; refusal 12 where that is shorter.
-fn deliver(buffer: &[u8], n: usize, output: &mut [u8]) -> ReadAnswer
+fn deliver(buffer: &[u8], n: usize, output: &mut [u8]) -> Result<usize, Refused>
     ensures { Delivers buffer.now n output.old output.new result }
 {
     if output.len() < n {
-        return ReadAnswer::Refused {
-            number: 12,
-            place: n,
-        };
+        return Err(Refused::QueryBytesTooLong(n));
     }
     if buffer.len() < n {
-        return ReadAnswer::Written(0);
+        return Ok(0);
     }
     output[..n].copy_from_slice(&buffer[..n]);
-    ReadAnswer::Written(n)
+    Ok(n)
 }
 
 // The query of a text's words.
-fn write(t: &[u32], output: &mut [u8]) -> ReadAnswer
+fn write(t: &[u32], output: &mut [u8]) -> Result<usize, Refused>
     requires { length t.now ≤ 4096 }
     ensures { Writes t.now output.old output.new result }
 {
@@ -60,34 +51,27 @@ fn write(t: &[u32], output: &mut [u8]) -> ReadAnswer
 }
 
 // The query of the first n words.
-fn finish(words: &[u32], n: usize, output: &mut [u8]) -> ReadAnswer
+fn finish(words: &[u32], n: usize, output: &mut [u8]) -> Result<usize, Refused>
     requires { length words.now ≤ 4096 }
     ensures { Finishes words.now n output.old output.new result }
 {
     if words.len() < n {
-        return ReadAnswer::Written(0);
+        return Ok(0);
     }
     write(&words[..n], output)
 }
 
 // The query bytes of a text at the front of the output: refusals 11 and 12.
-pub fn read_text(text: &[u8], output: &mut [u8]) -> ReadAnswer
+pub fn read_text(text: &[u8], output: &mut [u8]) -> Result<usize, Refused>
     ensures { read_in result output.new ≡ read_text text.now output.old }
 {
     if TEXT_LIMIT < text.len() {
-        return ReadAnswer::Refused {
-            number: 11,
-            place: TEXT_LIMIT,
-        };
+        return Err(Refused::TextFault(TEXT_LIMIT));
     }
     let mut words = [0u32; 4096];
     let mut stack = [0u8; 8194];
-    let r = scan(text, &mut words, &mut stack);
-    match r {
-        Scanned::Fault(p) => ReadAnswer::Refused {
-            number: 11,
-            place: p,
-        },
-        Scanned::Tokens(n) => finish(&words, n, output),
+    match scan(text, &mut words, &mut stack) {
+        Ok(n) => finish(&words, n, output),
+        Err(f) => Err(Refused::TextFault(f.0)),
     }
 }

@@ -1,15 +1,13 @@
 -- By what the scan answers. Assumes nothing.
-use Rattle.reading.proofs.CallLaws.{call_long, call-fault}
-use borrow.Author.Rules.{rules}
+use Rattle.std.proofs.Common.{arith}
+use Rattle.reading.proofs.CallLaws.{call_long, call-fault, call-tokens}
 use Rattle.reading.proofs.read_text.Goals as goal
 
 pub returns-then-text-gt-TEXT_LIMIT : goal.returns-then-text-gt-TEXT_LIMIT
-returns-then-text-gt-TEXT_LIMIT c =
-    let a = c.args in
-    call_long a.text.now a.output.now c.if-text-gt-TEXT_LIMIT.true
+returns-then-text-gt-TEXT_LIMIT c = call_long _ _ c.if-text-gt-TEXT_LIMIT.true
 
-pub returns-in-Fault : goal.returns-in-Fault
-returns-in-Fault c =
-    let call = c.scan-r in
-    let a = c.args in
-    call-fault a.text.now a.output.now call.new.words call.result _ c.in-Fault.is (search rules) call.ensures
+pub returns-in-Ok : goal.returns-in-Ok
+returns-in-Ok c = call-tokens _ _ _ _ _ _ (omega arith) c.in-Ok.ensures c.finish.ensures
+
+pub returns-in-Err : goal.returns-in-Err
+returns-in-Err c = call-fault _ _ c.scan.new.words _ (omega arith) c.in-Err.ensures
