@@ -1,9 +1,8 @@
 -- What the answers of the rewriting mean, and what a push of a part needs and leaves. Assumes nothing.
-use Rattle.std.specs.Prelude.{◌≡◌, List, ℕ, ◌≤◌, length, Result, Ok, Err}
+use Rattle.std.specs.Prelude.{◌≡◌, List, ℕ, ◌≤◌, length, Result}
 use Rattle.tsparql.specs.Push.{TrustBound, push, BoundFormed}
 use Rattle.tsparql.specs.Writing.{node_bytes, node_size}
 use Rattle.tsparql.specs.Reading.{Read, got}
-use Rattle.tsparql.specs.Check.{no_refusal}
 use Rattle.tsparql.specs.Rewrite as Rewrite
 use Rattle.tsparql.specs.Rewrite.{rewrite_limit, wrote_nothing}
 use Rattle.query.specs.Found.{NodeSound, node_of}

@@ -26,7 +26,10 @@ fn push_size(q: &[u8], b: Option<Bounds>) -> Result<(usize, usize), Fault>
     requires { NodeSound q.now × (length q.now ≤ 1024) }
     ensures { found result ≡ pushed q.now (bound_in b) }
 {
-    let (head, k) = read_own(q)?;
+    let read = read_own(q);
+    let Ok((head, k)) = read else {
+        return Err(read.unwrap_err());
+    };
     let own = own_size(head, b, k);
     let n = node_operands(head);
     if n == 0 {
@@ -82,7 +85,10 @@ fn push_node(q: &[u8], b: Option<Bounds>, out: &mut [u8]) -> Result<(usize, usiz
     requires { Pushable q.now (bound_in b) (length out.old) }
     ensures { Pushes q.now (bound_in b) out.old out.new result }
 {
-    let (head, k) = read_own(q)?;
+    let read = read_own(q);
+    let Ok((head, k)) = read else {
+        return Err(read.unwrap_err());
+    };
     let own = write_own(q, head, b, k, out);
     let n = node_operands(head);
     if n == 0 {

@@ -120,7 +120,10 @@ pub fn check_query(q: &[u8], limit: usize) -> Result<(), Refused>
     if limit < q.len() {
         return Err(Refused::QueryTooLong);
     }
-    let (_, next) = read_node(q)?;
+    let read = read_node(q);
+    let Ok((_, next)) = read else {
+        return Err(Refused::from(read.unwrap_err()));
+    };
     if next != q.len() {
         return Err(Refused::QueryFault(next));
     }
