@@ -4,11 +4,12 @@ use mathlib.Core.Path.{◌≡◌, refl, sym, ap, ◌∙◌, subst}
 use mathlib.Core.Bool.{Bool, true, false, cond}
 use mathlib.Core.List.{List, [], ◌∷◌, ◌++◌, append_assoc}
 use mathlib.Core.Option.{Option, none, some}
-use Prim.Native.Nat.{ℕ, ◌+◌, ◌*◌, ◌≤◌, ◌<◌}
+use Prim.Native.Nat.{ℕ, ◌+◌, ◌*◌, ◌≤◌}
 use native.Mathlib.Omega.{arith}
 use lib.Dec.{eqb}
 use lib.ListN.{length, drop, get_or, length-append, length-drop, length-map}
 use borrow.Author.Tests.{eqb-true, ne_eqb}
+use Rattle.std.proofs.Common.{Some, None}
 use Rattle.tsparql.specs.Strikes.{ascii}
 use Rattle.tsparql.specs.Query as Q
 use Rattle.tsparql.specs.Query.{Node, Pattern, pattern_set, left_join, union}
@@ -31,7 +32,7 @@ use Rattle.parser.specs.Sets.{pending_bytes, union_with, Unites, Joins}
 use Rattle.parser.specs.Stages.{Coming, body_place, Stands, Gathers, Closes}
 use Rattle.parser.specs.declared.Stage.{Stage}
 use Rattle.parser.proofs.SetLaws.{joined-empty}
-use Rattle.parser.proofs.StageLaws.{follows-longer, none-waits, stage-inside, stage-items, stage-holds}
+use Rattle.parser.proofs.StageLaws.{body-forward, follows-longer, none-waits, stage-inside, stage-items, stage-holds}
 
 -- ---- the group that begins
 
@@ -46,18 +47,19 @@ record Opening (t : List ℕ) (rest : List Token) (a : ℕ) (p : Option Node) (i
   follows : Follows tail later rest
 
 -- a word that begins a group, and is neither OPTIONAL nor UNION, is '{'
-group-word : (w i : ℕ) → i < body_place w i → (w ≡ 79 → ⊥) → (w ≡ 85 → ⊥) → w ≡ 123
-group-word w i h n m = go (eqb w 123) refl
+group-word : (w i a : ℕ) → Some a ≡ body_place w i → (w ≡ 79 → ⊥) → (w ≡ 85 → ⊥) → w ≡ 123
+group-word w i a h n m = go (eqb w 123) refl
   where
     go : (b : Bool) → eqb w 123 ≡ b → w ≡ 123
     go true e = eqb-true w 123 e
-    go false e = let z : i < i = rw (e, ne_eqb w 79 n, ne_eqb w 85 m) at h in absurd (omega arith)
+    go false e = let z : Some a ≡ None = rw (e, ne_eqb w 79 n, ne_eqb w 85 m) at h in absurd (cc)
 
 opening :
-    (t : List ℕ) (rest : List Token) (i a : ℕ) (p : Option Node) (is : List Item) → i < a → a ≡ body_place (get_or t i 0) i
+    (t : List ℕ) (rest : List Token) (i a : ℕ) (p : Option Node) (is : List Item) → Some a ≡ body_place (get_or t i 0) i
     → (get_or t i 0 ≡ 79 → ⊥) → Coming p (drop i t) is rest → Opening t rest a p is
-opening t rest i a (some u) is h e n c =
-    let place : a ≡ i + 2 = e ∙ rw (word_first t _ i _ c.written) in
+opening t rest i a (some u) is e n c =
+    let at : Some a ≡ Some (i + 2) = e ∙ rw (word_first t _ i _ c.written) in
+    let place : a ≡ i + 2 = cc in
     record {
       inner = c.inner;
       unions = c.unions;
@@ -67,10 +69,10 @@ opening t rest i a (some u) is h e n c =
       means = c.means;
       follows = c.follows;
     }
-opening t rest i a none is h e n c =
-    let first : get_or t i 0 ≡ 123 =
-    group-word (get_or t i 0) i (subst (λ (k : ℕ). i < k) e h) n (λ q. items-first _ is rest c (first_word t i ∙ q)) in
-    let place : a ≡ i + 1 = e ∙ rw first in
+opening t rest i a none is e n c =
+    let first : get_or t i 0 ≡ 123 = group-word (get_or t i 0) i a e n (λ q. items-first _ is rest c (first_word t i ∙ q)) in
+    let at : Some a ≡ Some (i + 1) = e ∙ rw first in
+    let place : a ≡ i + 1 = cc in
     go place (view-at t i 123 is rest first (items-walks c))
   where
     go : a ≡ i + 1 → View (drop i t) is rest k_group → Opening t rest a none is
@@ -122,16 +124,17 @@ record United (t : List ℕ) (rest : List Token) (pre out : List ℕ) (x : Node)
 module _ (t : List ℕ) (rest : List Token) (pre out₀ : List ℕ) (final : Node) (from a : ℕ) (g : Stage) (b : Block)
     (s : Stands t rest final from pre out₀ g) where
   close-united :
-      (out out₁ out₂ : List ℕ) (n n₂ : ℕ) → g.next < a → a ≡ body_place (get_or t g.next 0) g.next → (get_or t g.next 0 ≡ 79 → ⊥)
+      (out out₁ out₂ : List ℕ) (n n₂ : ℕ) → Some a ≡ body_place (get_or t g.next 0) g.next → (get_or t g.next 0 ≡ 79 → ⊥)
       → length out ≡ length out₀ → length out₁ ≡ length out → length out₂ ≡ length out₁ → Gathers t a g.len out₀ out b
       → Filters t a g.len out out₁ b.len n → Unites out₁ out₂ g.mid g.len n n₂
       → United t rest pre out₂ (joined s.left (pattern_set s.run)) s.items b.next n₂
-  close-united out out₁ out₂ n n₂ less place w same₀ same₁ same₂ gather filter unite =
+  close-united out out₁ out₂ n n₂ place w same₀ same₁ same₂ gather filter unite =
+      let less = body-forward (get_or t g.next 0) g.next a place in
       let p = s.pending in
       let x = joined s.left (pattern_set s.run) in
       let J = node_bytes x in
       let P = pending_bytes p in
-      let o = opening t rest g.next a p s.items less place w s.coming in
+      let o = opening t rest g.next a p s.items place w s.coming in
       let us = unions_tokens o.unions o.tail in
       let G = group_node (items o.inner) in
       let Z = union_with p G in
@@ -190,8 +193,8 @@ pub close-join :
     → Filters t a g.len out out₁ b.len n → Unites out₁ out₂ g.mid g.len n n₂ → Joins out₂ out₃ from g.mid n₂ n₃
     → Closes t a from out out₃ g b (record { next = b.next; mid = n₃; len = n₃; run = 0 })
 unfolding ascii
-close-join t out out₁ out₂ out₃ a from n n₂ n₃ g b w y same₁ same₂ same₃ filter unite join rest pre out₀ final less place same₀ s gather =
-    let c = close-united t rest pre out₀ final from a g b s out out₁ out₂ n n₂ less place w same₀ same₁ same₂ gather filter unite in
+close-join t out out₁ out₂ out₃ a from n n₂ n₃ g b w y same₁ same₂ same₃ filter unite join rest pre out₀ final place same₀ s gather =
+    let c = close-united t rest pre out₀ final from a g b s out out₁ out₂ n n₂ place w same₀ same₁ same₂ gather filter unite in
     go c c.unions refl
   where
     x : Node
@@ -249,8 +252,8 @@ pub close-union :
     → length out₁ ≡ length out → length out₂ ≡ length out₁ → Filters t a g.len out out₁ b.len n
     → Unites out₁ out₂ g.mid g.len n n₂ → Closes t a from out out₂ g b (record { next = b.next; mid = g.mid; len = n₂; run = 0 })
 unfolding united gathered ascii
-close-union t out out₁ out₂ a from n n₂ g b w y same₁ same₂ filter unite rest pre out₀ final less place same₀ s gather =
-    let c = close-united t rest pre out₀ final from a g b s out out₁ out₂ n n₂ less place w same₀ same₁ same₂ gather filter unite in
+close-union t out out₁ out₂ a from n n₂ g b w y same₁ same₂ filter unite rest pre out₀ final place same₀ s gather =
+    let c = close-united t rest pre out₀ final from a g b s out out₁ out₂ n n₂ place w same₀ same₁ same₂ gather filter unite in
     go c c.unions refl
   where
     x : Node
@@ -313,7 +316,7 @@ pub close-optional :
     → Exchanges out₁ out₂ from h.mid h.len → Puts out₂ out₃ from h.len 32 n
     → Closes t a from out out₃ g b (record { next = b.next; mid = n; len = n; run = 0 })
 unfolding gathered node_bytes
-close-optional t out out₁ out₂ out₃ a from n h g b w same₁ same₂ same₃ split exchange put rest pre out₀ final less place same₀ s gather =
+close-optional t out out₁ out₂ out₃ a from n h g b w same₁ same₂ same₃ split exchange put rest pre out₀ final place same₀ s gather =
     let idle = stage-items t rest final from pre out₀ g s (λ c. omega arith) in
     let o = optional t rest g.next s.items (view-at t g.next 79 s.items rest w (items-walks idle.0)) in
     let held = stage-holds t rest final from pre out₀ g s idle.1 in
@@ -331,7 +334,8 @@ close-optional t out out₁ out₂ out₃ a from n h g b w same₁ same₂ same�
     let tree = tree-size o.inner o.tail in
     let group = optional-size is in
     let follow = follows-longer _ _ _ o.follows in
-    let behind : a ≡ g.next + 2 = place ∙ rw w in
+    let at : Some a ≡ Some (g.next + 2) = place ∙ rw w in
+    let behind : a ≡ g.next + 2 = cc in
     let on : drop a t ≡ words (body_tokens o.inner o.tail) = ap (λ (m : ℕ). drop m t) behind ∙ words-on t _ g.next 2 o.written in
     let words₃ = ap length on in
     let words₄ = length-map o.tail token_word in

@@ -4,10 +4,11 @@ use mathlib.Core.Path.{◌≡◌, refl, sym, ap, ◌∙◌, subst}
 use mathlib.Core.Bool.{true}
 use mathlib.Core.List.{List, [], ◌∷◌, ◌++◌}
 use mathlib.Core.Option.{none}
-use Prim.Native.Nat.{ℕ, ◌+◌, ◌*◌, ◌≤◌, ◌<◌}
+use Prim.Native.Nat.{ℕ, ◌+◌, ◌*◌, ◌≤◌}
 use native.Mathlib.Omega.{arith}
 use native.Mathlib.Nat.{le_refl}
 use lib.ListN.{length, drop, get_or, length-append}
+use Rattle.std.proofs.Common.{Some}
 use Rattle.tsparql.specs.Query.{Node, pattern_set}
 use Rattle.tsparql.specs.Writing.{node_bytes}
 use Rattle.grammar.specs.Tokens.{Token}
@@ -19,9 +20,9 @@ use Rattle.words.proofs.WordLaws.{words-on}
 use Rattle.clauses.specs.declared.Block.{Block}
 use Rattle.groups.specs.Passes.{BodyAt}
 use Rattle.groups.proofs.Fronts.{k_end, View, at_end, items-walks, body-items, view-at}
-use Rattle.parser.specs.Stages.{body_place, Stands, Gathers, Passes, Closes}
+use Rattle.parser.specs.Stages.{body_place, Stands, Gathers, Closes}
 use Rattle.parser.specs.declared.Stage.{Stage}
-use Rattle.parser.proofs.StageLaws.{items-longer, stage-inside, stage-items, stage-holds}
+use Rattle.parser.proofs.StageLaws.{body-forward, items-longer, stage-inside, stage-items, stage-holds}
 
 -- what is joined in a body
 abbrev gathered_node : Body true → Node
@@ -109,28 +110,16 @@ module _ (t : List ℕ) (at from n : ℕ) where
       stage-end _ _ _ _ _ _ g c (begun out out₁ out' g s append w b rest pre p h room)
 
   pub gathering-closes :
-      (out out₁ out₂ out₃ : List ℕ) (a : ℕ) (g r : Stage) (b : Block) → g.next < a → a ≡ body_place (get_or t g.next 0) g.next
+      (out out₁ out₂ out₃ : List ℕ) (a : ℕ) (g r : Stage) (b : Block) → Some a ≡ body_place (get_or t g.next 0) g.next
       → Gathering t at from n out out₁ g → (a ≤ b.next) × Gathers t a g.len out₁ out₂ b → length out₂ ≡ length out₁
       → (b.next ≤ r.next) × Closes t a from out₂ out₃ g b r → length out₃ ≡ length out₂ → Gathering t at from n out out₃ r
-  gathering-closes out out₁ out₂ out₃ a g r b less place s gather same close same₂ =
+  gathering-closes out out₁ out₂ out₃ a g r b place s gather same close same₂ =
       let p = s.forward in
       let q = gather.0 in
       let u = close.0 in
+      let less = body-forward (get_or t g.next 0) g.next a place in
       record {
         forward = omega arith;
         same = same₂ ∙ same ∙ s.same;
-        stands = λ c rest pre f w h l. close.1 rest pre out₁ _ less place same (s.stands c rest pre f w h l) gather.1;
-      }
-
-  pub gathering-passes :
-      (out out₁ out₂ : List ℕ) (g r : Stage) → (get_or t g.next 0 ≡ 125 → ⊥) → (g.next < body_place (get_or t g.next 0) g.next → ⊥)
-      → Gathering t at from n out out₁ g → (g.next < r.next) × Passes t from out₁ out₂ g r → length out₂ ≡ length out₁
-      → Gathering t at from n out out₂ r
-  gathering-passes out out₁ out₂ g r x y s pass same =
-      let q = s.forward in
-      let u = pass.0 in
-      record {
-        forward = omega arith;
-        same = same ∙ s.same;
-        stands = λ b rest pre f w h l. pass.1 rest pre _ x y (s.stands b rest pre f w h l);
+        stands = λ c rest pre f w h l. close.1 rest pre out₁ _ place same (s.stands c rest pre f w h l) gather.1;
       }

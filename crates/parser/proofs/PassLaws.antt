@@ -1,11 +1,11 @@
--- A stage goes on over what begins no group: a triple (`pass-triple`), or a filter, projection, bound or dot, which join nothing
--- (`pass-other`). Assumes nothing.
+-- A stage goes on over a filter, projection, bound or dot, which join nothing (`pass-other`). Assumes nothing.
 use mathlib.Core.Path.{◌≡◌, refl, sym, ap, ◌∙◌, subst}
 use mathlib.Core.List.{List, ◌∷◌}
 use mathlib.Core.Option.{none}
-use Prim.Native.Nat.{ℕ, ◌≤◌, ◌<◌}
+use Prim.Native.Nat.{ℕ, ◌+◌, ◌<◌}
 use native.Mathlib.Omega.{arith}
 use lib.ListN.{drop, get_or, length-drop}
+use Rattle.std.proofs.Common.{Some, None}
 use Rattle.tsparql.specs.Query.{Node, Pattern, pattern_set}
 use Rattle.tsparql.specs.Writing.{node_bytes}
 use Rattle.grammar.specs.Tokens.{Token}
@@ -16,13 +16,9 @@ use Rattle.groups.specs.Items.{Follows, Items, next_place}
 use Rattle.groups.proofs.Fronts.{Kind, View, items-walks, first_word, view-at, next_item}
 use Rattle.groups.proofs.StepLaws.{next-forward, next_place_lem}
 use Rattle.groups.proofs.Fronts.{at_end, at_dot, at_union, at_triple, at_group, at_optional, at_filter, at_projection, at_bound}
-use Rattle.parser.specs.Stages.{body_place, Triples, Passes}
+use Rattle.parser.specs.Stages.{body_place, Passes}
 use Rattle.parser.specs.declared.Stage.{Stage}
 use Rattle.parser.proofs.StageLaws.{none-waits, stage-inside, stage-items, stage-holds}
-
-pub pass-triple :
-    (t out out' : List ℕ) (from : ℕ) (g r : Stage) → 256 ≤ get_or t g.next 0 → Triples t from out out' g r → Passes t from out out' g r
-pass-triple t out out' from g r w f rest pre final n m s = f rest pre final w s
 
 -- ---- what joins nothing
 
@@ -66,15 +62,18 @@ module _ (ws : List ℕ) (is : List Item) (rest : List Token) (x : Node) (run : 
   over p (at_optional g ts later e q f) = absurd (p.no_optional (first _ _ e))
 
 -- what the tests of the code say of a word
-plain : (w i : ℕ) → w < 256 → (w ≡ 125 → ⊥) → (i < body_place w i → ⊥) → Plain w
+plain : (w i : ℕ) → w < 256 → (w ≡ 125 → ⊥) → body_place w i ≡ None → Plain w
 plain w i h n m =
     record {
       small = h;
       not_end = n;
-      no_group = λ e. m (subst (λ (k : ℕ). i < body_place k i) (sym e) (omega arith));
-      no_optional = λ e. m (subst (λ (k : ℕ). i < body_place k i) (sym e) (omega arith));
-      no_union = λ e. m (subst (λ (k : ℕ). i < body_place k i) (sym e) (omega arith));
+      no_group = λ e. other (i + 1) (rw e);
+      no_optional = λ e. other (i + 2) (rw e);
+      no_union = λ e. other (i + 2) (rw e);
     }
+  where
+    other : (k : ℕ) → body_place w i ≡ Some k → ⊥
+    other k e = cc
 
 pub pass-other :
     (t out : List ℕ) (from j : ℕ) (g : Stage) → get_or t g.next 0 < 256 → j ≡ next_place t g.next

@@ -217,15 +217,6 @@ holds-set out pre rest h v a n e g =
 
 -- ---- slots
 
--- the number that `slot` writes of a variable, and of a term
-pub bytes-variable : (w : ℕ) → w < 2097152 → three_bytes ((1048576 + w % 256) % 2097152) ≡ slot_bytes w
-bytes-variable w l =
-    let same : (1048576 + w % 256) % 2097152 ≡ 1048576 + w % 256 = omega arith in
-    ap three_bytes (same ∙ sym (rw (lt-ltb w 2097152 l)))
-
-pub bytes-term : (w : ℕ) → 2097152 ≤ w → three_bytes (w % 2097152) ≡ slot_bytes w
-bytes-term w l = sym (rw (le-ltb w 2097152 l))
-
 -- they are the bytes of the slot whose word it is
 slot-bytes : (x : Slot) → slot_bytes (slot_word x) ≡ three_bytes (slot_number (slot_of x))
 slot-bytes (variable v) =

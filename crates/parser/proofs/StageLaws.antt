@@ -1,10 +1,12 @@
 -- A stage of the gathering: there are words to come (`stage-inside`), and where no UNION is next no operand waits (`stage-items`,
 -- `stage-holds`). How many words a body has, at least. Assumes nothing.
 use mathlib.Core.Path.{◌≡◌, refl, sym, ap, ◌∙◌, subst}
-use mathlib.Core.Bool.{Bool, true, false}
+use mathlib.Core.Bool.{Bool, true, false, cond, ◌||◌}
+use Rattle.std.proofs.Common.{Some, None}
+use lib.Dec.{eqb}
 use mathlib.Core.List.{List, [], ◌++◌, append-nil}
 use mathlib.Core.Option.{Option, none, some}
-use Prim.Native.Nat.{ℕ, ◌≤◌, ◌<◌}
+use Prim.Native.Nat.{ℕ, ◌+◌, ◌≤◌, ◌<◌}
 use native.Mathlib.Omega.{arith}
 use lib.ListN.{length, drop, get_or, length-drop, length-map}
 use Rattle.tsparql.specs.Query.{Node, pattern_set}
@@ -19,8 +21,17 @@ use Rattle.words.specs.Words.{token_word}
 use Rattle.words.proofs.WordLaws.{word_first}
 use Rattle.groups.specs.Items.{Follows, Items}
 use Rattle.parser.specs.Sets.{pending_bytes}
-use Rattle.parser.specs.Stages.{Coming, Stands}
+use Rattle.parser.specs.Stages.{Coming, body_place, Stands}
 use Rattle.parser.specs.declared.Stage.{Stage}
+
+-- the body of a group begins behind its first word
+pub body-forward : (w i a : ℕ) → Some a ≡ body_place w i → i < a
+body-forward w i a e = go (eqb w 123) (eqb w 79 || eqb w 85) e
+  where
+    go : (b c : Bool) → Some a ≡ cond b (Some (i + 1)) (cond c (Some (i + 2)) None) → i < a
+    go true c q = let place : a ≡ i + 1 = cc in omega arith
+    go false true q = let place : a ≡ i + 2 = cc in omega arith
+    go false false q = absurd (cc)
 
 -- ---- how many words
 

@@ -1,6 +1,7 @@
 -- Where the gathering of a group stands (`Stands`): what is joined so far, an operand whose union goes on, the items to come, what the
 -- buffer holds; and what the functions promise that take it on. Assumes nothing.
 use Rattle.std.specs.Prelude.{◌≡◌, true, cond, ◌||◌, List, [], ◌∷◌, ◌++◌, ℕ, ◌+◌, ◌*◌, ◌≤◌, ◌<◌, eqb, length, drop, get_or}
+use Rattle.std.specs.Prelude as P
 use Rattle.std.proofs.Math.Option.{Option, none, some}
 use Rattle.tsparql.specs.Query.{Pattern, Node, pattern_set, union}
 use Rattle.tsparql.specs.Writing.{node_bytes}
@@ -62,9 +63,9 @@ Gathers t at from out out' b =
     → from + 4 * length (drop at t) ≤ length out + 4 * length rest
     → (drop b.next t ≡ words rest) × Holds out' (pre ++ gathered_bytes g) b.len
 
--- the body of a group whose first word is w at i: behind '{', and behind the brace that follows OPTIONAL or UNION; else i
-abbrev pub body_place : ℕ → ℕ → ℕ
-body_place w i = cond (eqb w 123) (i + 1) (cond (eqb w 79 || eqb w 85) (i + 2) i)
+-- where the body begins of a group whose first word is w at i: behind '{', and behind the brace that follows OPTIONAL or UNION
+abbrev pub body_place : ℕ → ℕ → P.Option ℕ
+body_place w i = cond (eqb w 123) (P.Some (i + 1)) (cond (eqb w 79 || eqb w 85) (P.Some (i + 2)) P.None)
 
 -- the gathering goes on over a triple
 abbrev pub Triples : List ℕ → ℕ → List ℕ → List ℕ → Stage → Stage → Type 0
@@ -76,12 +77,12 @@ Triples t from out out' g r =
 abbrev pub Passes : List ℕ → ℕ → List ℕ → List ℕ → Stage → Stage → Type 0
 Passes t from out out' g r =
     (rest : List Token) (pre : List ℕ) (final : Node) → (get_or t g.next 0 ≡ 125 → ⊥)
-    → (g.next < body_place (get_or t g.next 0) g.next → ⊥)
+    → body_place (get_or t g.next 0) g.next ≡ P.None
     → Stands t rest final from pre out g → Stands t rest final from pre out' r
 
 -- and over a group, whose body begins at a, and what is joined in which was written behind the stage's bytes, in a buffer as long
 abbrev pub Closes : List ℕ → ℕ → ℕ → List ℕ → List ℕ → Stage → Block → Stage → Type 0
 Closes t a from out out' g b r =
-    (rest : List Token) (pre out₀ : List ℕ) (final : Node) → g.next < a → a ≡ body_place (get_or t g.next 0) g.next
+    (rest : List Token) (pre out₀ : List ℕ) (final : Node) → P.Some a ≡ body_place (get_or t g.next 0) g.next
     → length out ≡ length out₀ → Stands t rest final from pre out₀ g → Gathers t a g.len out₀ out b
     → Stands t rest final from pre out' r

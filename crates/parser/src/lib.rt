@@ -3,16 +3,15 @@
 // Groups: nodes that stand last; triples; a group.
 #![tactic(auto)]
 
-ghost use Rattle.std.specs.Prelude.{◌||◌, ◌≡◌, ◌≤◌, ◌<◌, eqb, leb, length, get_or, set};
+ghost use Rattle.std.specs.Prelude.{◌≡◌, ◌≤◌, ◌<◌, length, get_or, set};
 ghost use Rattle.blocks.specs.Buffers.{buffer, appended};
-ghost use Rattle.words.specs.Links.{Linked};
 ghost use Rattle.parser.specs.Sets.{Unites, Joins, Begins, slot_bytes, Adds};
 ghost use Rattle.parser.specs.Stages.{body_place, Triples, Passes, Closes, Gathers};
 
 use blocks::{append, append3, exchange, put};
 use clauses::Block;
 use groups::{filtered, split, step};
-use words::{FIRST_NUMBER, FIRST_VARIABLE, LBRACE, OPTIONAL, RBRACE, UNION, word};
+use words::{FIRST_NUMBER, FIRST_VARIABLE, LBRACE, OPTIONAL, RBRACE, Text, UNION, word};
 
 // ---- nodes that stand last in a buffer
 
@@ -30,10 +29,7 @@ fn unite(out: &mut [u8], mid: usize, end: usize, n: usize) -> usize
 fn join(out: &mut [u8], from: usize, mid: usize, n: usize) -> usize
     ensures { Joins out.old out.new from mid n result }
 {
-    if n <= mid {
-        return n;
-    }
-    if mid <= from {
+    if n <= mid || mid <= from {
         return n;
     }
     if n - mid == 1 {
@@ -50,10 +46,7 @@ fn join(out: &mut [u8], from: usize, mid: usize, n: usize) -> usize
 fn begin(out: &mut [u8], from: usize, n: usize) -> usize
     ensures { Begins out.old out.new from n result }
 {
-    if n <= from {
-        return n;
-    }
-    if n - from == 1 {
+    if n <= from || n - from == 1 {
         return n;
     }
     let m = append(out, n, 0);
@@ -79,10 +72,12 @@ fn slot(t: &[u32], i: usize, out: &mut [u8], n: usize) -> usize
     ensures { buffer out.new result ≡ appended (buffer out.old n) (slot_bytes (get_or t.now i 0)) }
 {
     let x = word(t, i);
-    if x < FIRST_NUMBER {
-        return append3(out, n, VARIABLE_SLOT + x % 256);
-    }
-    append3(out, n, x)
+    let bits = if x < FIRST_NUMBER {
+        VARIABLE_SLOT + x % 256
+    } else {
+        x
+    };
+    append3(out, n, bits)
 }
 
 // A triple into the set of `run` triples that stands last.
@@ -90,10 +85,7 @@ fn add(t: &[u32], i: usize, out: &mut [u8], n: usize, run: usize) -> usize
     requires { i < length t.now }
     ensures { Adds t.now i out.old out.new n run result }
 {
-    if 14 < run {
-        return n;
-    }
-    if n <= 9 * run {
+    if 14 < run || n <= 9 * run {
         return n;
     }
     mark(out, n - 1 - 9 * run, (run + 1) as u8);
@@ -114,97 +106,71 @@ pub struct Stage {
     pub run: usize,
 }
 
-// Whether the next triple begins a set.
-fn begins_set(run: usize) -> bool
-    ensures { result ≡ (eqb run 0 || leb 15 run) }
-{
-    if run == 0 {
-        return true;
-    }
-    15 <= run
-}
-
-// The stage behind the triple at `next`, which is added to the last set or begins one.
+// The stage behind the triple at `next`, which is added to the last set of fewer than fifteen, or begins one.
 fn triple(t: &[u32], out: &mut [u8], from: usize, g: Stage) -> Stage
     requires { g.next < length t.now }
     ensures { (g.next < result.next) × Triples t.now from out.old out.new g result }
 {
     let i = g.next;
-    let run = g.run;
-    if begins_set(run) {
-        let m = begin(out, from, g.len);
-        let e = add(t, i, out, m, 0);
-        return Stage {
-            next: i + 3,
-            mid: e,
-            len: e,
-            run: 1,
-        };
-    }
-    let e = add(t, i, out, g.len, run);
-    Stage {
-        next: i + 3,
-        mid: e,
-        len: e,
-        run: run + 1,
+    match g.run {
+        1..=14 => {
+            let e = add(t, i, out, g.len, g.run);
+            Stage {
+                next: i + 3,
+                mid: e,
+                len: e,
+                run: g.run + 1,
+            }
+        }
+        _ => {
+            let m = begin(out, from, g.len);
+            let e = add(t, i, out, m, 0);
+            Stage {
+                next: i + 3,
+                mid: e,
+                len: e,
+                run: 1,
+            }
+        }
     }
 }
 
 // The stage behind an item without braces, or a dot.
-fn pass(t: &[u32], out: &mut [u8], from: usize, g: Stage, ends: &[u16]) -> Stage
-    requires { (g.next < length t.now) × Linked t.now ends.now }
+fn pass(t: &Text, out: &mut [u8], from: usize, g: Stage) -> Stage
+    requires { g.next < length t.now }
     ensures { (g.next < result.next) × Passes t.now from out.old out.new g result }
 {
-    let i = g.next;
-    let w = t[i];
-    if FIRST_VARIABLE <= w {
-        return triple(t, out, from, g);
+    if FIRST_VARIABLE <= t.word(g.next) {
+        return triple(t.words(), out, from, g);
     }
-    let next = step(t, i, ends);
-    let mid = g.mid;
-    let len = g.len;
-    let run = g.run;
     Stage {
-        next,
-        mid,
-        len,
-        run,
+        next: step(t, g.next),
+        ..g
     }
 }
 
 // The stage behind a group whose body begins at a place and which was written behind the stage's bytes: left-joined, or united and joined.
-fn close(
-    t: &[u32],
-    a: usize,
-    out: &mut [u8],
-    from: usize,
-    g: Stage,
-    b: Block,
-    ends: &[u16],
-) -> Stage
-    requires { Linked t.now ends.now }
+fn close(t: &Text, a: usize, out: &mut [u8], from: usize, g: Stage, b: Block) -> Stage
     ensures { (b.next ≤ result.next) × Closes t.now a from out.old out.new g b result }
 {
-    let q = b.next;
-    let w = word(t, g.next);
-    if w == OPTIONAL {
-        let h = split(t, a, out, g.len, b.len, ends);
+    let next = b.next;
+    if t.word(g.next) == OPTIONAL {
+        let h = split(t, a, out, g.len, b.len);
         exchange(out, from, h.mid, h.len);
         let n = put(out, from, h.len, 32);
         return Stage {
-            next: q,
+            next,
             mid: n,
             len: n,
             run: 0,
         };
     }
     let mid = g.mid;
-    let n = filtered(t, a, out, g.len, b.len, ends);
+    let n = filtered(t, a, out, g.len, b.len);
     let k = unite(out, mid, g.len, n);
-    let u = word(t, q);
-    if u == UNION {
+    if t.word(next) == UNION {
         return Stage {
-            next: q,
+            next,
             mid,
             len: k,
             run: 0,
@@ -212,34 +178,27 @@ fn close(
     }
     let j = join(out, from, mid, k);
     Stage {
-        next: q,
+        next,
         mid: j,
         len: j,
         run: 0,
     }
 }
 
-// Where the body of the group begins that begins at a place; the place itself where none does.
-fn body_place(t: &[u32], i: usize) -> usize
+// Where the body begins of the group that begins at a place, if one does.
+fn body_place(t: &Text, i: usize) -> Option<usize>
     requires { i < length t.now }
     ensures { result ≡ body_place (get_or t.now i 0) i }
 {
-    let w = t[i];
-    if w == LBRACE {
-        return i + 1;
+    match t.word(i) {
+        LBRACE => Some(i + 1),
+        OPTIONAL | UNION => Some(i + 2),
+        _ => None,
     }
-    if w == OPTIONAL {
-        return i + 2;
-    }
-    if w == UNION {
-        return i + 2;
-    }
-    i
 }
 
 // What is joined in the group whose body begins at a place, behind `from` bytes, up to and over the closing brace.
-pub fn gather(t: &[u32], at: usize, out: &mut [u8], from: usize, ends: &[u16]) -> Block
-    requires { Linked t.now ends.now }
+pub fn gather(t: &Text, at: usize, out: &mut [u8], from: usize) -> Block
     ensures { (at ≤ result.next) × Gathers t.now at from out.old out.new result }
 {
     let n = append(out, from, 0);
@@ -249,27 +208,23 @@ pub fn gather(t: &[u32], at: usize, out: &mut [u8], from: usize, ends: &[u16]) -
         len: n,
         run: 0,
     };
-    loop {
-        let i = g.next;
-        if t.len() <= i {
+    while g.next < t.len() {
+        if t.word(g.next) == RBRACE {
             return Block {
-                next: i,
+                next: g.next + 1,
                 len: g.len,
             };
         }
-        let w = t[i];
-        if w == RBRACE {
-            return Block {
-                next: i + 1,
-                len: g.len,
-            };
+        match body_place(t, g.next) {
+            Some(a) => {
+                let b = gather(t, a, out, g.len);
+                g = close(t, a, out, from, g, b);
+            }
+            None => g = pass(t, out, from, g),
         }
-        let a = body_place(t, i);
-        if i < a {
-            let b = gather(t, a, out, g.len, ends);
-            g = close(t, a, out, from, g, b, ends);
-        } else {
-            g = pass(t, out, from, g, ends);
-        }
+    }
+    Block {
+        next: g.next,
+        len: g.len,
     }
 }

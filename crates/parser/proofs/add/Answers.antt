@@ -1,10 +1,17 @@
 -- Each answer is one law. Assumes nothing.
-use Rattle.parser.proofs.SetLaws.{adds, adds-none-2}
+use native.Mathlib.Omega.{arith}
+use Rattle.parser.proofs.SetLaws.{adds, adds_none, adds-none-2}
 use borrow.Author.Rules.{rules}
 use Rattle.parser.proofs.add.Goals as goal
+use Rattle.parser.proofs.add.Goals.{then-run-gt14-via-then-run-gt14, then-run-gt14-via-else-run-gt14+then-n-run}
 
-pub returns-then-n-run : goal.returns-then-n-run
-returns-then-n-run c = let a = c.args in adds-none-2 a.t.now a.i _ _ _ _ (search rules)
+pub returns-then-run-gt14 : goal.returns-then-run-gt14
+returns-then-run-gt14 c =
+    let a = c.args in
+    elim c.then-run-gt14.branch [
+      | then-run-gt14-via-then-run-gt14 w ↦ adds_none a.t.now a.i _ _ _ _ (omega arith)
+      | then-run-gt14-via-else-run-gt14+then-n-run w ↦ adds-none-2 a.t.now a.i _ _ _ _ (omega arith)
+    ]
 
 pub returns : goal.returns
 returns c =

@@ -7,5 +7,5 @@ use Rattle.parser.proofs.pass.Goals as goal
 pub returns : goal.returns
 returns c =
     let a = c.args in
-    let forward = next-forward a.t.now a.g.next _ c.step-next.ensures in
-    (search rules, pass-other a.t.now _ a.from _ a.g (search rules) c.step-next.ensures)
+    let forward = next-forward a.t.now a.g.next _ c.step.ensures in
+    (search rules, pass-other a.t.now _ a.from _ a.g (search rules) c.step.ensures)

@@ -1,22 +1,25 @@
--- By whether the triple begins a set. Assumes nothing.
-use mathlib.Core.Path.{sym, ◌∙◌}
-use Rattle.parser.proofs.TripleLaws.{set-begins, set-goes-on, triple-new, triple-more}
-use borrow.Author.Rules.{rules}
+-- By whether the triple goes into the last set. Assumes nothing.
+use mathlib.Core.Path.{◌≡◌}
+use mathlib.Core.Logic.{◌⊎◌, inl, inr}
+use Prim.Native.Nat.{◌≤◌}
+use native.Mathlib.Omega.{arith}
+use Rattle.parser.proofs.TripleLaws.{triple-new, triple-more}
 use Rattle.parser.proofs.triple.Goals as goal
+use Rattle.parser.proofs.triple.Goals.{in_default-via-then-g-lt1, in_default-via-else-g-lt1+else-g-lt15}
 
-pub returns-then-begins_set : goal.returns-then-begins_set
-returns-then-begins_set c =
-    let a = c.args in
-    let first = set-begins a.g.run (sym c.begins_set.ensures ∙ c.if-begins_set.true) in (
-      search rules,
-      triple-new a.t.now _ _ _ a.from _ _ a.g first
-          c.begin-m.auto.out c.add-e.auto.out c.begin-m.ensures c.add-e.ensures,
+pub returns-in-1-to-14 : goal.returns-in-1-to-14
+returns-in-1-to-14 c =
+    let a = c.args in (
+      omega arith,
+      triple-more a.t.now _ _ a.from _ a.g (omega arith) (omega arith) c.add-e.auto.out c.add-e.ensures,
     )
 
-pub returns : goal.returns
-returns c =
+pub returns-in_default : goal.returns-in_default
+returns-in_default c =
     let a = c.args in
-    let on = set-goes-on a.g.run (sym c.begins_set.ensures ∙ c.if-begins_set.false) in (
-      search rules,
-      triple-more a.t.now _ _ a.from _ a.g on.0 on.1 c.add-e-2.auto.out c.add-e-2.ensures,
+    let new : (a.g.run ≡ 0) ⊎ (15 ≤ a.g.run) =
+    elim c.in_default.branch
+    [ in_default-via-then-g-lt1 w ↦ inl (omega arith) | in_default-via-else-g-lt1+else-g-lt15 w ↦ inr (omega arith) ] in (
+      omega arith,
+      triple-new a.t.now _ _ _ a.from _ _ a.g new c.begin-m.auto.out c.add-e-in_default.auto.out c.begin-m.ensures c.add-e-in_default.ensures,
     )
