@@ -1,5 +1,5 @@
 -- By what the scan answers. Assumes nothing.
-use Rattle.std.proofs.Common.{arith}
+use native.Mathlib.Omega.{arith}
 use Rattle.reading.proofs.CallLaws.{call_long, call-fault, call-tokens}
 use Rattle.reading.proofs.read_text.Goals as goal
 
@@ -7,7 +7,7 @@ pub returns-then-text-gt-TEXT_LIMIT : goal.returns-then-text-gt-TEXT_LIMIT
 returns-then-text-gt-TEXT_LIMIT c = call_long _ _ c.if-text-gt-TEXT_LIMIT.true
 
 pub returns-in-Ok : goal.returns-in-Ok
-returns-in-Ok c = call-tokens _ _ _ _ _ _ (omega arith) c.in-Ok.ensures c.finish.ensures
+returns-in-Ok c = call-tokens _ _ _ _ _ _ (omega arith) c.in-Ok.ensures c.write.ensures
 
 pub returns-in-Err : goal.returns-in-Err
 returns-in-Err c = call-fault _ _ c.scan.new.words _ (omega arith) c.in-Err.ensures

@@ -4,6 +4,5 @@ use Rattle.reading.proofs.render.Goals as goal
 
 pub returns : goal.returns
 returns c =
-    let a = c.args in
-    renders a.t.now _ _ _ c.gather-b.result _ c.gather-b.auto.out c.filtered.auto.out c.gather-b.ensures.1
-    c.filtered.ensures
+    rw c.min.ensures
+    (renders c.args.t.now _ _ _ c.gather-b.result _ c.gather-b.auto.out c.filtered-n.auto.out c.gather-b.ensures.1 c.filtered-n.ensures)
