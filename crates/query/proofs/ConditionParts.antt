@@ -176,6 +176,10 @@ condition-head-inside s e = rw e at (head-inside s)
 -- ---- the code's steps
 
 -- the next of n conditions faults, or leaves those behind it
+pub conditions-none : (s : List ℕ) (at : ℕ) → conditions_from 0 at s ≡ got tt at
+unfolding conditions_from
+conditions-none s at = refl
+
 pub conditions-fault : (s : List ℕ) (n at p : ℕ) → 1 ≤ n → map_read condition_head (read_condition (drop at s)) ≡ fault p
     → conditions_from n at s ≡ fault (at + p)
 unfolding conditions_from

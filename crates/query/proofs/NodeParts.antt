@@ -219,6 +219,10 @@ node-head-inside s e = rw e at (head-inside s)
 
 -- ---- the code's steps
 
+pub nodes-none : (s : List ℕ) (at : ℕ) → nodes_from 0 at s ≡ got tt at
+unfolding nodes_from
+nodes-none s at = refl
+
 pub nodes-fault : (s : List ℕ) (n at p : ℕ) → 1 ≤ n → map_read node_head (read_node (drop at s)) ≡ fault p → nodes_from n at s ≡ fault (at + p)
 unfolding nodes_from
 nodes-fault = from-fault node_head read_node nodes_from (λ n at s. refl)

@@ -19,26 +19,27 @@ use slots::read_pattern;
 // ---- conditions
 
 // The condition that a part starts with, and the place behind its last operand.
-#[cycle(read_condition_read_conditions)]
 pub fn read_condition(q: &[u8]) -> Result<(ConditionHead, usize), Fault>
     ensures { found result ≡ map_read condition_head (read_condition q.now) }
 {
     let (head, own) = read_condition_head(q)?;
-    let end = read_conditions(q, own, condition_operands(head))?;
-    Ok((head, end))
+    let mut place = own;
+    for _ in 0..condition_operands(head) {
+        match read_condition(&q[place..]) {
+            Ok((_, k)) => place += k,
+            Err(f) => return Err(f.behind(place)),
+        }
+    }
+    Ok((head, place))
 }
 
-// The place behind n conditions, one behind the other, from a place on.
-#[cycle(read_condition_read_conditions)]
-fn read_conditions(q: &[u8], at: usize, n: u8) -> Result<usize, Fault>
-    requires { (1 ≤ at) × (at ≤ length q.now) × (n ≤ 2) }
-    ensures { place_found result ≡ conditions_from n at q.now }
+// The place behind the condition that stands at a place.
+fn condition_end(q: &[u8], at: usize) -> Result<usize, Fault>
+    requires { (1 ≤ at) × (at ≤ length q.now) }
+    ensures { place_found result ≡ conditions_from 1 at q.now }
 {
-    if n == 0 {
-        return Ok(at);
-    }
     match read_condition(&q[at..]) {
-        Ok((_, k)) => read_conditions(q, at + k, n - 1),
+        Ok((_, k)) => Ok(at + k),
         Err(f) => Err(f.behind(at)),
     }
 }
@@ -77,7 +78,7 @@ fn before_operands(q: &[u8], h: Head, own: usize) -> Result<usize, Fault>
 {
     match h {
         Head::PatternSet(n) => read_patterns(q, own, n),
-        Head::LeftJoin | Head::Filter => read_conditions(q, own, 1),
+        Head::LeftJoin | Head::Filter => condition_end(q, own),
         _ => Ok(own),
     }
 }
@@ -92,28 +93,18 @@ pub fn read_own(q: &[u8]) -> Result<(Head, usize), Fault>
 }
 
 // The node that a part starts with, and the place behind its last operand.
-#[cycle(read_node_read_nodes)]
 pub fn read_node(q: &[u8]) -> Result<(Head, usize), Fault>
     ensures { found result ≡ map_read node_head (read_node q.now) }
 {
-    let (head, at) = read_own(q)?;
-    let next = read_nodes(q, at, node_operands(head))?;
+    let (head, own) = read_own(q)?;
+    let mut next = own;
+    for _ in 0..node_operands(head) {
+        match read_node(&q[next..]) {
+            Ok((_, k)) => next += k,
+            Err(fault) => return Err(fault.behind(next)),
+        }
+    }
     Ok((head, next))
-}
-
-// The place behind n nodes, one behind the other, from a place on.
-#[cycle(read_node_read_nodes)]
-fn read_nodes(q: &[u8], at: usize, n: u8) -> Result<usize, Fault>
-    requires { (1 ≤ at) × (at ≤ length q.now) × (n ≤ 2) }
-    ensures { place_found result ≡ nodes_from n at q.now }
-{
-    if n == 0 {
-        return Ok(at);
-    }
-    match read_node(&q[at..]) {
-        Ok((_, k)) => read_nodes(q, at + k, n - 1),
-        Err(fault) => Err(fault.behind(at)),
-    }
 }
 
 // The place of the next node in prefix order, or that of a fault before it.
