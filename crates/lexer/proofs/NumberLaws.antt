@@ -80,7 +80,7 @@ module _ (s : List ℕ) (at : ℕ) (a : Bool) (X : Symbol) (h : at < length s) w
   abbrev byte : ℕ
   byte = get_or s at 0
 
-  pub variable-says : byte ≡ 63 → Advanced s at a X (variable_at X s at)
+  pub variable-says : byte ≡ 63 → Advanced s at a X (variable_at X a s at)
   variable-says q = go (vars X) refl
     where
       go : (o : O.Option (List Symbol)) → vars X ≡ o

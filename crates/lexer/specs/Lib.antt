@@ -2,5 +2,6 @@
 pub mod Symbols
 pub mod Rules
 pub mod NextToken
+pub mod Starts
 pub mod Stacks
 pub mod Steps

@@ -49,8 +49,8 @@ when_allowed at token None = fault_at at
 when_allowed at token (Some production) = token production
 
 -- a variable
-abbrev pub variable_at : Symbol → List ℕ → ℕ → Step
-variable_at X s at = when_allowed at (λ p. number_at 0 15 256 p s (at + 1)) (follows X 63)
+abbrev pub variable_at : Symbol → Bool → List ℕ → ℕ → Step
+variable_at X tight s at = when_allowed at (λ p. number_at 0 15 256 p s (at + 1)) (follows X 63)
 
 -- a bound below 0; no number follows a word, number or variable directly
 abbrev pub negative_at : Symbol → Bool → List ℕ → ℕ → Step
@@ -73,7 +73,7 @@ fixed_at X tight s at = when_allowed at (word_apart tight s at) (follows X (get_
 -- the token that begins at a place
 unfoldable pub token_at : Symbol → Bool → List ℕ → ℕ → Step
 token_at X tight s at =
-    cond (eqb (get_or s at 0) 63) (variable_at X s at)
+    cond (eqb (get_or s at 0) 63) (variable_at X tight s at)
     (cond (eqb (get_or s at 0) 45) (negative_at X tight s at)
     (cond (digit (get_or s at 0)) (positive_at X tight s at) (fixed_at X tight s at)))
 

@@ -6,10 +6,14 @@ ghost use Rattle.std.specs.List.{find};
 ghost use Rattle.lexer.specs.Symbols.{Gives};
 ghost use Rattle.lexer.specs.Rules.{covering, follows};
 ghost use Rattle.lexer.specs.Steps.{Pushes, Scans};
+ghost use Rattle.lexer.specs.Starts.{Begins};
 ghost use Rattle.lexer.specs.NextToken.{number_at, word_at, variable_at, negative_at, positive_at, fixed_at, token_at, next_token};
+
+mod start;
 
 use refusals::Fault;
 use scanner::{fixed_token, numeral, skip};
+use start::Start;
 use words::{FIRST_NEGATIVE, FIRST_NUMBER, FIRST_VARIABLE};
 
 // ---- what may come
@@ -171,82 +175,78 @@ fn numeric(
     })
 }
 
-// A token that begins with a question mark.
-fn variable(s: &[u8], at: usize, symbol: u8) -> Result<Lexeme, Fault>
-    requires { at < length s.now }
-    ensures { Gives symbol (λ X. variable_at X s.now at) result }
-{
-    let production = allowed(symbol, b'?').ok_or(Fault(at))?;
-    numeric(s, at + 1, 0, 15, FIRST_VARIABLE, production)
-}
-
-// A token that begins with a minus sign.
-fn negative(s: &[u8], at: usize, tight: bool, symbol: u8) -> Result<Lexeme, Fault>
-    requires { at < length s.now }
-    ensures { Gives symbol (λ X. negative_at X tight s.now at) result }
-{
-    if tight || symbol != BOUND {
-        return Err(Fault(at));
+impl<'a> Start<'a> {
+    // A token that begins with a question mark.
+    fn variable(&self) -> Result<Lexeme, Fault>
+        ensures { Begins variable_at self.now result }
+    {
+        let production = allowed(self.symbol, b'?').ok_or(Fault(self.at))?;
+        numeric(self.text, self.at + 1, 0, 15, FIRST_VARIABLE, production)
     }
-    numeric(s, at + 1, 1, 1000, FIRST_NEGATIVE, 0)
-}
 
-// A token that begins with a digit.
-fn positive(s: &[u8], at: usize, tight: bool, symbol: u8) -> Result<Lexeme, Fault>
-    requires { at < length s.now }
-    ensures { Gives symbol (λ X. positive_at X tight s.now at) result }
-{
-    if tight {
-        return Err(Fault(at));
+    // A token that begins with a minus sign.
+    fn negative(&self) -> Result<Lexeme, Fault>
+        ensures { Begins negative_at self.now result }
+    {
+        if self.tight || self.symbol != BOUND {
+            return Err(Fault(self.at));
+        }
+        numeric(self.text, self.at + 1, 1, 1000, FIRST_NEGATIVE, 0)
     }
-    if symbol == BOUND {
-        return numeric(s, at, 0, 1000, FIRST_NUMBER, 0);
-    }
-    let production = allowed(symbol, b'0').ok_or(Fault(at))?;
-    numeric(s, at, 1, 1048575, FIRST_NUMBER, production)
-}
 
-// A fixed token, by its first byte.
-fn spelled(s: &[u8], at: usize, production: u64) -> Result<Lexeme, Fault>
-    requires { at < length s.now }
-    ensures { result ≡ word_at production s.now at }
-{
-    let first = s[at];
-    match fixed_token(&s[at..], first) {
-        Ok(len) => Ok(Lexeme {
-            word: u32::from(first),
-            next: at + len,
-            tight: first.is_ascii_uppercase(),
-            production,
-        }),
-        Err(fault) => Err(fault.behind(at)),
+    // A token that begins with a digit.
+    fn positive(&self) -> Result<Lexeme, Fault>
+        ensures { Begins positive_at self.now result }
+    {
+        if self.tight {
+            return Err(Fault(self.at));
+        }
+        if self.symbol == BOUND {
+            return numeric(self.text, self.at, 0, 1000, FIRST_NUMBER, 0);
+        }
+        let production = allowed(self.symbol, b'0').ok_or(Fault(self.at))?;
+        numeric(self.text, self.at, 1, 1048575, FIRST_NUMBER, production)
     }
-}
 
-// A token that begins with any other byte. A word may not follow a word, number or variable directly.
-fn fixed(s: &[u8], at: usize, tight: bool, symbol: u8) -> Result<Lexeme, Fault>
-    requires { at < length s.now }
-    ensures { Gives symbol (λ X. fixed_at X tight s.now at) result }
-{
-    let first = s[at];
-    let production = allowed(symbol, first).ok_or(Fault(at))?;
-    if tight && first.is_ascii_uppercase() {
-        return Err(Fault(at));
+    // A fixed token, by its first byte.
+    fn spelled(&self, production: u64) -> Result<Lexeme, Fault>
+        ensures { result ≡ word_at production self.now.text.now self.now.at }
+    {
+        let first = self.text[self.at];
+        match fixed_token(&self.text[self.at..], first) {
+            Ok(len) => Ok(Lexeme {
+                word: u32::from(first),
+                next: self.at + len,
+                tight: first.is_ascii_uppercase(),
+                production,
+            }),
+            Err(fault) => Err(fault.behind(self.at)),
+        }
     }
-    spelled(s, at, production)
-}
 
-// The token whose first byte stands at a place.
-#[tactic(auto, unfolding(crate::specs::NextToken::token_at))]
-fn begin(s: &[u8], at: usize, tight: bool, symbol: u8) -> Result<Lexeme, Fault>
-    requires { at < length s.now }
-    ensures { Gives symbol (λ X. token_at X tight s.now at) result }
-{
-    match s[at] {
-        b'?' => variable(s, at, symbol),
-        b'-' => negative(s, at, tight, symbol),
-        b'0'..=b'9' => positive(s, at, tight, symbol),
-        _ => fixed(s, at, tight, symbol),
+    // A token that begins with any other byte. A word may not follow a word, number or variable directly.
+    fn fixed(&self) -> Result<Lexeme, Fault>
+        ensures { Begins fixed_at self.now result }
+    {
+        let first = self.text[self.at];
+        let production = allowed(self.symbol, first).ok_or(Fault(self.at))?;
+        if self.tight && first.is_ascii_uppercase() {
+            return Err(Fault(self.at));
+        }
+        self.spelled(production)
+    }
+
+    // The token, by its first byte.
+    #[tactic(auto, unfolding(crate::specs::NextToken::token_at))]
+    fn token(&self) -> Result<Lexeme, Fault>
+        ensures { Begins token_at self.now result }
+    {
+        match self.text[self.at] {
+            b'?' => self.variable(),
+            b'-' => self.negative(),
+            b'0'..=b'9' => self.positive(),
+            _ => self.fixed(),
+        }
     }
 }
 
@@ -260,7 +260,13 @@ fn advance(s: &[u8], at: usize, tight: bool, symbol: u8) -> Result<Lexeme, Fault
     if s.len() <= i {
         return Err(Fault(i));
     }
-    begin(s, i, tight && at == i, symbol)
+    let start = Start {
+        text: s,
+        at: i,
+        tight: tight && at == i,
+        symbol,
+    };
+    start.token()
 }
 
 // ---- the text
