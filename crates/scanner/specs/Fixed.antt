@@ -4,18 +4,15 @@ use Rattle.grammar.specs.Tokens as T
 use Rattle.scanner.specs.Scans.{common}
 use Rattle.refusals.specs.declared.Fault.{Fault}
 
--- BOUND, TRUST and AS; any other byte is a token of its own
-abbrev pub short_keyword : ℕ → List ℕ
-short_keyword b = cond (eqb b 66) T.BOUND (cond (eqb b 84) T.TRUST (cond (eqb b 65) T.AS (b ∷ [])))
-
--- the other keywords besides
-abbrev pub keyword_of : ℕ → List ℕ
-keyword_of b =
-    cond (eqb b 79) T.OPTIONAL (cond (eqb b 85) T.UNION (cond (eqb b 70) T.FILTER (cond (eqb b 69) T.ENSURE (short_keyword b))))
-
--- and `&&` and `||`
+-- the fixed token with this first byte; a byte that begins no other is a token of its own
 abbrev pub fixed_token : ℕ → List ℕ
-fixed_token b = cond (eqb b 38) T.AND (cond (eqb b 124) T.OR (keyword_of b))
+fixed_token b =
+    cond (eqb b 38) T.AND
+    (cond (eqb b 124) T.OR
+    (cond (eqb b 79) T.OPTIONAL
+    (cond (eqb b 85) T.UNION
+    (cond (eqb b 70) T.FILTER
+    (cond (eqb b 69) T.ENSURE (cond (eqb b 66) T.BOUND (cond (eqb b 84) T.TRUST (cond (eqb b 65) T.AS (b ∷ [])))))))))
 
 -- the token's length where the text has it whole, else the place of the first byte that differs
 abbrev pub compared : List ℕ → List ℕ → Result ℕ Fault

@@ -5,7 +5,7 @@ ghost use Rattle.std.specs.Prelude.{◌≡◌, ◌≤◌, ◌<◌, eqb, length, 
 ghost use Rattle.std.specs.List.{prefix_len, zip};
 ghost use Rattle.grammar.specs.Tokens.{is_space};
 ghost use Rattle.scanner.specs.Scans.{skip_from, digit_value, longer_by, number_from, numeral_from};
-ghost use Rattle.scanner.specs.Fixed.{compared, short_keyword, keyword_of, fixed_token};
+ghost use Rattle.scanner.specs.Fixed.{compared, fixed_token};
 
 use refusals::Fault;
 
@@ -47,36 +47,7 @@ fn compare(text: &[u8], word: &[u8]) -> Result<usize, Fault>
     if n < word.len() { Err(Fault(n)) } else { Ok(n) }
 }
 
-// BOUND, TRUST and AS, and the tokens of one byte.
-#[tactic(auto, unfolding(tsparql::specs::Strikes::ascii))]
-fn short_keyword(text: &[u8], first: u8) -> Result<usize, Fault>
-    requires { (0 < length text.now) × (get_or text.now 0 0 ≡ first) }
-    ensures { result ≡ compared (short_keyword first) text.now }
-{
-    match first {
-        b'B' => compare(text, b"BOUND"),
-        b'T' => compare(text, b"TRUST"),
-        b'A' => compare(text, b"AS"),
-        _ => Ok(1),
-    }
-}
-
-// The other keywords besides.
-#[tactic(auto, unfolding(tsparql::specs::Strikes::ascii))]
-fn keyword(text: &[u8], first: u8) -> Result<usize, Fault>
-    requires { (0 < length text.now) × (get_or text.now 0 0 ≡ first) }
-    ensures { result ≡ compared (keyword_of first) text.now }
-{
-    match first {
-        b'O' => compare(text, b"OPTIONAL"),
-        b'U' => compare(text, b"UNION"),
-        b'F' => compare(text, b"FILTER"),
-        b'E' => compare(text, b"ENSURE"),
-        _ => short_keyword(text, first),
-    }
-}
-
-// The same of the fixed token with this first byte.
+// The same of the fixed token with this first byte; a byte that begins no other is a token of its own.
 #[tactic(auto, unfolding(tsparql::specs::Strikes::ascii))]
 pub fn fixed_token(text: &[u8], first: u8) -> Result<usize, Fault>
     requires { (0 < length text.now) × (get_or text.now 0 0 ≡ first) }
@@ -85,7 +56,14 @@ pub fn fixed_token(text: &[u8], first: u8) -> Result<usize, Fault>
     match first {
         b'&' => compare(text, b"&&"),
         b'|' => compare(text, b"||"),
-        _ => keyword(text, first),
+        b'O' => compare(text, b"OPTIONAL"),
+        b'U' => compare(text, b"UNION"),
+        b'F' => compare(text, b"FILTER"),
+        b'E' => compare(text, b"ENSURE"),
+        b'B' => compare(text, b"BOUND"),
+        b'T' => compare(text, b"TRUST"),
+        b'A' => compare(text, b"AS"),
+        _ => Ok(1),
     }
 }
 
