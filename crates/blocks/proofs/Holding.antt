@@ -4,26 +4,38 @@ use mathlib.Core.Path.{◌≡◌, refl, sym, ap, ◌∙◌, subst}
 use mathlib.Core.Bool as B
 use mathlib.Core.List.{List, [], ◌∷◌, ◌++◌, append_assoc, append-nil, reverse, reverse-append, reverse-reverse}
 use mathlib.Core.Logic.{◌⊎◌, ⊎_elim}
-use Prim.Native.Nat.{ℕ, suc, ◌+◌, ◌-◌, ◌≤◌, ◌<◌}
+use Prim.Native.Nat.{ℕ, suc, ◌+◌, ◌-◌, ◌≤◌, ◌<◌, min}
 use native.Mathlib.Omega.{arith}
 use lib.ListN.{length, take, drop, get_or, length-append, length-drop, length-reverse, take-append-drop}
 use lib.Seq.{drop-cons, drop-drop, take_at, drop_at, drop-append-add, length-take-le, take-add}
 use lib.Dec.{leb}
 use borrow.Author.Tests.{le-leb, lt-leb, lt-ltb}
-use Rattle.blocks.specs.Buffers.{Buffer, buffer, shifted, inserted, prepended, appended, slice, reversed, exchanged}
+use Rattle.blocks.specs.Buffers.{Filled, buffer, cut, shifted, inserted, prepended, appended, slice, reversed, exchanged}
 use Rattle.blocks.specs.Blocks.{Holds, Puts, Appends, Exchanges}
 
 -- the bytes that are held, and the rest of the buffer
-pub holds-split : (l bs : List ℕ) (n : ℕ) → Holds l bs n → l ≡ bs ++ drop n l
-holds-split l bs n h = sym (take-append-drop n l) ∙ ap (λ (x : List ℕ). x ++ drop n l) h.front
+pub holds-split : (b : Filled) (bs : List ℕ) (all : ℕ) → Holds b bs all → b.bytes ≡ bs ++ drop b.end b.bytes
+holds-split b bs all h = sym (take-append-drop b.end b.bytes) ∙ ap (λ (x : List ℕ). x ++ drop b.end b.bytes) h.front
 
 -- and of such a buffer they are held
-pub split-holds : (l bs rest : List ℕ) (n : ℕ) → l ≡ bs ++ rest → n ≡ length bs → Holds l bs n
-split-holds l bs rest n e s = record { size = s; front = ap (λ (x : List ℕ). take n x) e ∙ take_at bs rest n (sym s) }
+pub split-holds :
+    (l bs rest : List ℕ) (n all : ℕ) → l ≡ bs ++ rest → n ≡ length bs → length l ≡ all → Holds (buffer l n) bs all
+split-holds l bs rest n all e s w =
+    record { whole = w; size = s; front = ap (λ (x : List ℕ). take n x) e ∙ take_at bs rest n (sym s) }
 
 -- what is held is no longer than the buffer
-pub holds-within : (l bs : List ℕ) (n : ℕ) → Holds l bs n → n ≤ length l
-holds-within l bs n h = let s = h.size in omega (arith, length-append bs (drop n l), ap length (holds-split l bs n h))
+pub holds-within : (b : Filled) (bs : List ℕ) (all : ℕ) → Holds b bs all → b.end ≤ all
+holds-within b bs all h =
+    let s = h.size in
+    let w = h.whole in
+    omega (arith, length-append bs (drop b.end b.bytes), ap length (holds-split b bs all h))
+
+-- of two blocks, the first alone
+pub holds-cut : (b : Filled) (bs cs : List ℕ) (all n : ℕ) → Holds b (bs ++ cs) all → n ≡ length bs → Holds (cut b n) bs all
+holds-cut b bs cs all n h e =
+    let s = h.size in
+    let m : min b.end n ≡ n = omega (arith, length-append bs cs) in
+    rw m (split-holds b.bytes bs (cs ++ drop b.end b.bytes) n all (holds-split b (bs ++ cs) all h ∙ append_assoc bs cs (drop b.end b.bytes)) e h.whole)
 
 -- ---- one byte
 
@@ -41,24 +53,6 @@ inserted-blocks X C D d w i e p q =
     ap (λ (k : ℕ). drop k L) m ∙ drop-append-add X (C ++ d ∷ D) (length C + 1) ∙ drop-append-add C (d ∷ D) 1 in
     rw (a, c, f)
 
-holds-insert :
-    (l pre bs : List ℕ) (i e v : ℕ) → length pre ≡ i → e < length l → Holds l (pre ++ bs) e
-    → Holds (shifted l i e v) (pre ++ (v ∷ bs)) (e + 1)
-holds-insert l pre bs i e v p r h =
-    let n = h.size in
-    let s : e ≡ i + length bs = omega (arith, length-append pre bs) in
-    let d = get_or l e 0 in
-    let D = drop (suc e) l in
-    let parts : l ≡ pre ++ (bs ++ d ∷ D) =
-    holds-split l (pre ++ bs) e h ∙ ap (λ (x : List ℕ). (pre ++ bs) ++ x) (drop-cons l e 0 r) ∙ append_assoc pre bs (d ∷ D) in
-    let so : shifted l i e v ≡ (pre ++ (v ∷ bs)) ++ D =
-    ap (λ (x : List ℕ). shifted x i e v) parts ∙ inserted-blocks pre bs D d v i e (sym p) s ∙ sym (append_assoc pre (v ∷ bs) D) in
-    split-holds (shifted l i e v) (pre ++ (v ∷ bs)) D (e + 1) so (omega (arith, length-append pre (v ∷ bs)))
-
--- the same of a buffer
-abbrev HoldsTo : List ℕ → Buffer → Type 0
-HoldsTo bs b = Holds b.bytes bs b.end
-
 length-shifted : (l : List ℕ) (i e v : ℕ) → i ≤ e → e < length l → length (shifted l i e v) ≡ length l
 length-shifted l i e v h r =
     let m : length (take i l) ≡ i = length-take-le i l (omega arith) in
@@ -66,65 +60,70 @@ length-shifted l i e v h r =
     let c = take (e - i) (drop i l) ++ drop (e + 1) l in
     omega (arith, m, k, length-append (take i l) (v ∷ c), length-append (take (e - i) (drop i l)) (drop (e + 1) l), length-drop (e + 1) l)
 
-inserted-shifted :
-    (b : Buffer) (i v : ℕ) → i ≤ b.end → b.end < length b.bytes
-    → inserted b i v ≡ buffer (shifted b.bytes i b.end v) (b.end + 1)
+-- an insertion where there is room
+pub inserted-shifted :
+    (b : Filled) (i v : ℕ) → i ≤ b.end → b.end < length b.bytes
+    → buffer (shifted b.bytes i b.end v) (b.end + 1) ≡ inserted b i v
 unfolding inserted
-inserted-shifted b i v k r = rw (le-leb i b.end k, lt-ltb b.end (length b.bytes) r)
+inserted-shifted b i v k r = sym (rw (le-leb i b.end k, lt-ltb b.end (length b.bytes) r))
+
+holds-insert :
+    (b : Filled) (pre bs : List ℕ) (i v all : ℕ) → length pre ≡ i → b.end < all → Holds b (pre ++ bs) all
+    → Holds (inserted b i v) (pre ++ (v ∷ bs)) all
+holds-insert b pre bs i v all p q h =
+    let l = b.bytes in
+    let e = b.end in
+    let n = h.size in
+    let w = h.whole in
+    let r : e < length l = omega arith in
+    let s : e ≡ i + length bs = omega (arith, length-append pre bs) in
+    let d = get_or l e 0 in
+    let D = drop (suc e) l in
+    let parts : l ≡ pre ++ (bs ++ d ∷ D) =
+    holds-split b (pre ++ bs) all h ∙ ap (λ (x : List ℕ). (pre ++ bs) ++ x) (drop-cons l e 0 r) ∙ append_assoc pre bs (d ∷ D) in
+    let so : shifted l i e v ≡ (pre ++ (v ∷ bs)) ++ D =
+    ap (λ (x : List ℕ). shifted x i e v) parts ∙ inserted-blocks pre bs D d v i e (sym p) s ∙ sym (append_assoc pre (v ∷ bs) D) in
+    subst (λ (x : Filled). Holds x (pre ++ (v ∷ bs)) all) (inserted-shifted b i v (omega arith) r)
+    (split-holds (shifted l i e v) (pre ++ (v ∷ bs)) D (e + 1) all so (omega (arith, length-append pre (v ∷ bs)))
+    (length-shifted l i e v (omega arith) r ∙ w))
+
+pub puts : (v : ℕ) {b b' : Filled} {i : ℕ} → b' ≡ inserted b i v → Puts b b' i v
+puts v {b} {b'} {i} w all pre bs p h room =
+    subst (λ (x : Filled). Holds x (pre ++ (v ∷ bs)) all) (sym w) (holds-insert b pre bs i v all p room h)
 
 -- bytes in front of the last block, which began at i
-module _ (pre bs : List ℕ) {l : List ℕ} {i e : ℕ} (p : length pre ≡ i) (h : Holds l (pre ++ bs) e) where
-  prepending :
-      (vs : List ℕ) → e + length vs ≤ length l
-      → (length (prepended (buffer l e) i vs).bytes ≡ length l) × HoldsTo (pre ++ (vs ++ bs)) (prepended (buffer l e) i vs)
-  unfolding prepended
-  prepending [] room = (refl, h)
-  prepending (v ∷ vs) room =
-      let more = prepending vs (omega arith) in
-      let b = prepended (buffer l e) i vs in
-      let s = h.size in
-      let s₁ = more.1.size in
-      let k : i ≤ b.end = omega (arith, length-append pre (vs ++ bs)) in
-      let r : b.end < length b.bytes =
-      omega (arith, more.0, length-append pre (vs ++ bs), length-append vs bs, length-append pre bs) in
-      let so = inserted-shifted b i v k r in
-      let same = length-shifted b.bytes i b.end v k r ∙ more.0 in (
-        ap (λ (x : Buffer). length x.bytes) so ∙ same,
-        subst (HoldsTo (pre ++ (v ∷ (vs ++ bs)))) (sym so) (holds-insert b.bytes pre (vs ++ bs) i b.end v p r more.1),
-      )
-
-  pub prepends :
-      (vs : List ℕ) {l' : List ℕ} {r : ℕ} → buffer l' r ≡ prepended (buffer l e) i vs → e + length vs ≤ length l
-      → Holds l' (pre ++ (vs ++ bs)) r
-  prepends vs w room = subst (HoldsTo (pre ++ (vs ++ bs))) (sym w) (prepending vs room).1
-
-pub puts : (v : ℕ) {l l' : List ℕ} {i e r : ℕ} → buffer l' r ≡ inserted (buffer l e) i v → Puts l l' i e v r
+pub prepends :
+    (pre bs : List ℕ) {b : Filled} {i all : ℕ} → length pre ≡ i → Holds b (pre ++ bs) all → (vs : List ℕ) {b' : Filled}
+    → b' ≡ prepended b i vs → b.end + length vs ≤ all → Holds b' (pre ++ (vs ++ bs)) all
 unfolding prepended
-puts v w pre bs p h room = prepends pre bs p h (v ∷ []) w (omega arith)
-
-pub appends : (bs : List ℕ) {l l' : List ℕ} {e r : ℕ} → buffer l' r ≡ appended (buffer l e) bs → Appends l l' e bs r
-unfolding appended
-appends [] {l} {l'} {e} {r} w pre h room =
-    subst (HoldsTo (pre ++ [])) (sym w) (subst (λ (x : List ℕ). Holds l x e) (sym (append-nil pre)) h)
-appends (v ∷ bs) {l} {l'} {e} {r} w pre h room =
+prepends pre bs {b} {i} {all} p h [] w room = subst (λ (x : Filled). Holds x (pre ++ bs) all) (sym w) h
+prepends pre bs {b} {i} {all} p h (v ∷ vs) w room =
+    let more = prepends pre bs p h vs refl (omega arith) in
     let s = h.size in
-    let k : e < length l = omega arith in
-    let fits = inserted-shifted (buffer l e) e v (omega arith) k in
-    let one : Holds (shifted l e e v) (pre ++ (v ∷ [])) (e + 1) =
-    holds-insert l pre [] e e v (sym s) k (subst (λ (x : List ℕ). Holds l x e) (sym (append-nil pre)) h) in
-    let more = appends bs (w ∙ ap (λ (b : Buffer). appended b bs) fits) (pre ++ (v ∷ [])) one
-    (omega (arith, length-shifted l e e v (omega arith) k)) in
-    subst (λ (x : List ℕ). Holds l' x r) (append_assoc pre (v ∷ []) bs) more
+    let m = more.size in
+    puts v w all pre (vs ++ bs) p more (omega (arith, length-append pre (vs ++ bs), length-append vs bs, length-append pre bs))
+
+pub appends : (bs : List ℕ) {b b' : Filled} → b' ≡ appended b bs → Appends b b' bs
+unfolding appended
+appends [] {b} {b'} w all pre h room =
+    subst (λ (x : Filled). Holds x (pre ++ []) all) (sym w) (subst (λ (x : List ℕ). Holds b x all) (sym (append-nil pre)) h)
+appends (v ∷ bs) {b} {b'} w all pre h room =
+    let s = h.size in
+    let one : Holds (inserted b b.end v) (pre ++ (v ∷ [])) all =
+    holds-insert b pre [] b.end v all (sym s) (omega arith) (subst (λ (x : List ℕ). Holds b x all) (sym (append-nil pre)) h) in
+    let m = one.size in
+    let more = appends bs w all (pre ++ (v ∷ [])) one (omega (arith, length-append pre (v ∷ []))) in
+    subst (λ (x : List ℕ). Holds b' x all) (append_assoc pre (v ∷ []) bs) more
 
 -- bytes behind bytes
-appended-append : (b : Buffer) (bs cs : List ℕ) → appended (appended b bs) cs ≡ appended b (bs ++ cs)
+appended-append : (b : Filled) (bs cs : List ℕ) → appended (appended b bs) cs ≡ appended b (bs ++ cs)
 unfolding appended
 appended-append b [] cs = refl
 appended-append b (v ∷ bs) cs = appended-append (inserted b b.end v) bs cs
 
 pub appended-on :
-    (bs cs : List ℕ) (b : Buffer) {b₁ b₂ : Buffer} → b₁ ≡ appended b bs → b₂ ≡ appended b₁ cs → b₂ ≡ appended b (bs ++ cs)
-appended-on bs cs b e f = f ∙ ap (λ (x : Buffer). appended x cs) e ∙ appended-append b bs cs
+    (bs cs : List ℕ) (b : Filled) {b₁ b₂ : Filled} → b₁ ≡ appended b bs → b₂ ≡ appended b₁ cs → b₂ ≡ appended b (bs ++ cs)
+appended-on bs cs b e f = f ∙ ap (λ (x : Filled). appended x cs) e ∙ appended-append b bs cs
 
 -- ---- two blocks
 
@@ -227,20 +226,29 @@ exchange-none l i m e o =
     (λ y. ⊎_elim (λ x. rw (lt-leb m e x, B.and-false (leb i m)))
     (λ x. rw (lt-leb e (length l) x, B.and-false (leb m e), B.and-false (leb i m))) y) o)
 
-pub exchanges : {l l' : List ℕ} {i m e : ℕ} → l' ≡ exchanged l i m e → Exchanges l l' i m e
+pub exchanges :
+    {b b' : Filled} {i m : ℕ} → b' ≡ buffer (exchanged b.bytes i m b.end) b.end → Exchanges b b' i m
 unfolding exchanged
-exchanges {l} {l'} {i} {m} {e} w pre a b p n h =
+exchanges {b} {b'} {i} {m} w all pre x y p n h =
     let s = h.size in
+    let l = b.bytes in
+    let e = b.end in
     let D = drop e l in
-    let all : l ≡ pre ++ (a ++ (b ++ D)) =
-    holds-split l (pre ++ (a ++ b)) e h ∙ append_assoc pre (a ++ b) D ∙ ap (λ (x : List ℕ). pre ++ x) (append_assoc a b D) in
-    let size : e ≡ m + length b = omega (arith, length-append pre (a ++ b), length-append a b) in
-    let so : l' ≡ pre ++ (b ++ (a ++ D)) =
-    w ∙ rw (le-leb i m (omega arith), le-leb m e (omega arith), le-leb e (length l) (holds-within l (pre ++ (a ++ b)) e h))
-    (parts l pre a b D i m e all p (omega arith) (sym size)) in
-    split-holds l' (pre ++ (b ++ a)) D e
-    (so ∙ ap (λ (x : List ℕ). pre ++ x) (sym (append_assoc b a D)) ∙ sym (append_assoc pre (b ++ a) D))
-    (omega (arith, size, length-append pre (b ++ a), length-append b a))
+    let u = h.whole in
+    let k = holds-within b (pre ++ (x ++ y)) all h in
+    let whole : l ≡ pre ++ (x ++ (y ++ D)) =
+    holds-split b (pre ++ (x ++ y)) all h ∙ append_assoc pre (x ++ y) D ∙ ap (λ (z : List ℕ). pre ++ z) (append_assoc x y D) in
+    let size : e ≡ m + length y = omega (arith, length-append pre (x ++ y), length-append x y) in
+    let so : exchanged l i m e ≡ (pre ++ (y ++ x)) ++ D =
+    rw (le-leb i m (omega arith), le-leb m e (omega arith), le-leb e (length l) (omega arith))
+    (parts l pre x y D i m e whole p (omega arith) (sym size)
+    ∙ ap (λ (z : List ℕ). pre ++ z) (sym (append_assoc y x D)) ∙ sym (append_assoc pre (y ++ x) D)) in
+    let q = length-append pre (y ++ x) in
+    let r = length-append y x in
+    let t : length (exchanged l i m e) ≡ all =
+    omega (arith, ap length so, ap length whole, length-append (pre ++ (y ++ x)) D, length-append pre (x ++ (y ++ D)), length-append x (y ++ D), length-append y D) in
+    subst (λ (z : Filled). Holds z (pre ++ (y ++ x)) all) (sym w)
+    (split-holds (exchanged l i m e) (pre ++ (y ++ x)) D e all so (omega arith) t)
 
 pub ruleset exchanging = (exchange-none, exchange-reversals)
 

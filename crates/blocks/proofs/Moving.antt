@@ -9,8 +9,8 @@ use native.Mathlib.Nat.{le_refl, sub_self}
 use lib.Dec.{leb}
 use lib.ListN.{length, take, drop, get_or, set, length-set, take-append-drop, get_or-append}
 use lib.Seq.{take-suc, drop-cons, set_at, length-take-le, get_or-take, append_snoc}
-use borrow.Author.Tests.{le-leb, lt-leb, lt-ltb, le-ltb}
-use Rattle.blocks.specs.Buffers.{buffer, shifted, inserted}
+use borrow.Author.Tests.{lt-leb, le-ltb}
+use Rattle.blocks.specs.Buffers.{Filled, shifted, inserted}
 
 -- what stands from i to e has moved on, and the byte at i is still there
 abbrev pub moved : List ℕ → ℕ → ℕ → List ℕ
@@ -79,28 +79,23 @@ moved-one l now at e (suc j) h m =
     let q : suc j - 1 ≡ j = omega arith in
     rw (q, add-one j) (one-back l now at e j (omega arith) m)
 
-moved-last : (l now : List ℕ) (at e i v : ℕ) → i ≤ at → Moved l now at e i → set now at v ≡ shifted l at e v
+pub moved-last : (l now : List ℕ) (at e i v : ℕ) → i ≤ at → Moved l now at e i → set now at v ≡ shifted l at e v
 moved-last l now at e i v h m =
     let q : i ≡ at = let f = m.from in omega arith in
     let t = m.to in
     let r = m.room in
     ap (λ (x : List ℕ). set x at v) (m.so ∙ ap (λ (n : ℕ). moved l n e) q) ∙ store l _ at v (omega arith)
 
--- ---- the buffer where there is room, and where there is none
+-- ---- the buffer where there is none
 
-pub insert-room :
-    (l now : List ℕ) (at e i v : ℕ) → at ≤ e → e < length l → i ≤ at → Moved l now at e i
-    → buffer (set now at v) (e + 1) ≡ inserted (buffer l e) at v
+pub insert-full : (b : Filled) (at v : ℕ) → length b.bytes ≤ b.end → b ≡ inserted b at v
 unfolding inserted
-insert-room l now at e i v k r h m =
-    rw (le-leb at e k, lt-ltb e (length l) r) (ap (λ (x : List ℕ). buffer x (e + 1)) (moved-last l now at e i v h m))
+insert-full b at v r = sym (rw (le-ltb b.end (length b.bytes) r, B.and-false (leb at b.end)))
 
-pub insert-full : (l : List ℕ) (at e v : ℕ) → length l ≤ e → buffer l e ≡ inserted (buffer l e) at v
+pub insert-behind : (b : Filled) (at v : ℕ) → b.end < at → b ≡ inserted b at v
 unfolding inserted
-insert-full l at e v r = sym (rw (le-ltb e (length l) r, B.and-false (leb at e)))
+insert-behind b at v r = sym (rw (lt-leb at b.end r))
 
-pub insert-behind : (l : List ℕ) (at e v : ℕ) → e < at → buffer l e ≡ inserted (buffer l e) at v
-unfolding inserted
-insert-behind l at e v r = sym (rw (lt-leb at e r))
+pub ruleset moving = (moved_none, moved-one, moved-last)
 
-pub ruleset inserting = (moved_none, moved-one, insert-room, insert-full, insert-behind)
+pub ruleset inserting = (insert-full, insert-behind)

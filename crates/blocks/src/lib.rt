@@ -1,42 +1,41 @@
-// Blocks of bytes, one behind the other from the front of a lent buffer up to an end: a byte comes in front of a block or behind the
-// last one, and two neighbours change places. The functions that add a byte answer the new end; where there is no room nothing changes.
+// Blocks of bytes, one behind the other from the front of a lent buffer up to its end: a byte comes in front of a block or behind the last
+// one, and two neighbours change places. Where there is no room nothing changes.
 #![tactic(auto)]
 
-ghost use Rattle.std.specs.Prelude.{[], ◌∷◌, ◌≡◌, ◌≤◌, ◌%◌, length};
+ghost use Rattle.std.specs.Prelude.{[], ◌∷◌, ◌≡◌, ◌≤◌, ◌<◌, ◌%◌, length, take, set};
 ghost use Rattle.tsparql.specs.Writing.{three_bytes};
-ghost use Rattle.blocks.specs.Buffers.{buffer, inserted, appended, reversed, exchanged};
+ghost use Rattle.blocks.specs.Buffers.{buffer, shifted, inserted, appended, cut, reversed, exchanged};
 
-// The byte v in front of the last block, which stands from a place to the end and moves on by one.
-#[tactic(auto, using(crate::proofs::Moving::inserting))]
-pub fn put(out: &mut [u8], at: usize, end: usize, v: u8) -> usize
-    ensures { buffer out.new result ≡ inserted (buffer out.old end) at v }
+use std::marker::Model;
+
+// Lent bytes, of which the first `len` are in use.
+#[derive(Drop)]
+pub struct Buffer<'a> {
+    bytes: &'a mut [u8],
+    len: usize,
+}
+
+impl<'a> Model for Buffer<'a> {
+    ghost use Rattle.std.specs.Prelude.{◌≤◌, length};
+    ghost use Rattle.blocks.specs.Buffers.{Filled, buffer};
+
+    ghost Value = { Filled };
+
+    ghost view = { λ b. buffer b.bytes.now b.len };
+
+    ghost invariant = { λ b. b.len ≤ length b.bytes.now };
+}
+
+// The byte v at `at`, and those from there to `end` one place on.
+#[tactic(auto, using(crate::proofs::Moving::moving))]
+fn shift(out: &mut [u8], at: usize, end: usize, v: u8)
+    requires { (at ≤ end) × (end < length out.old) }
+    ensures { out.new ≡ shifted out.old at end v }
 {
-    if end < at || out.len() <= end {
-        return end;
-    }
     for i in (at..end).rev() {
         out[i + 1] = out[i];
     }
     out[at] = v;
-    end + 1
-}
-
-// A byte behind the last block.
-#[tactic(auto, unfolding(crate::specs::Buffers::appended))]
-pub fn append(out: &mut [u8], end: usize, v: u8) -> usize
-    ensures { buffer out.new result ≡ appended (buffer out.old end) (v ∷ []) }
-{
-    put(out, end, end, v)
-}
-
-// Three bytes behind it, which hold the low 21 bits of a number.
-pub fn append3(out: &mut [u8], end: usize, x: u32) -> usize
-    ensures { buffer out.new result ≡ appended (buffer out.old end) (three_bytes (x % 2097152)) }
-{
-    let [_, high, middle, low] = x.to_be_bytes();
-    let n = append(out, end, high % 32);
-    let m = append(out, n, middle);
-    append(out, m, low)
 }
 
 // The bytes from one place up to another, the last one first.
@@ -48,15 +47,84 @@ fn reverse(out: &mut [u8], from: usize, to: usize)
     out[from..to].reverse();
 }
 
-// The last two blocks, from `at` to `mid` and on to the end, change places: each is reversed, and then the whole.
-#[tactic(auto, using(crate::proofs::Holding::exchanging))]
-pub fn exchange(out: &mut [u8], at: usize, mid: usize, end: usize)
-    ensures { out.new ≡ exchanged out.old at mid end }
-{
-    if mid < at || end < mid || out.len() < end {
-        return;
+impl<'a> Buffer<'a> {
+    // None of the bytes in use.
+    pub fn new(bytes: &'a mut [u8]) -> Buffer<'a>
+        ensures { result ≡ buffer bytes.old 0 }
+    {
+        Buffer { bytes, len: 0 }
     }
-    reverse(out, at, mid);
-    reverse(out, mid, end);
-    reverse(out, at, end);
+
+    // How many are in use.
+    pub fn len(&self) -> usize
+        ensures { result ≡ self.now.end }
+    {
+        self.len
+    }
+
+    // Those in use.
+    pub fn bytes(&self) -> &[u8]
+        ensures { result.now ≡ take self.now.end self.now.bytes }
+    {
+        &self.bytes[..self.len]
+    }
+
+    // Only the first n in use.
+    pub fn truncate(&mut self, n: usize)
+        ensures { self.new ≡ cut self.old n }
+    {
+        self.len = self.len.min(n);
+    }
+
+    // The byte v at a place.
+    pub fn set(&mut self, at: usize, v: u8)
+        ensures { self.new ≡ buffer (set self.old.bytes at v) self.old.end }
+    {
+        if at < self.bytes.len() {
+            self.bytes[at] = v;
+        }
+    }
+
+    // The byte v in front of the last block, which stands from a place to the end and moves on by one.
+    #[tactic(auto, using(crate::proofs::Moving::inserting))]
+    pub fn put(&mut self, at: usize, v: u8)
+        ensures { self.new ≡ inserted self.old at v }
+    {
+        let end = self.len;
+        if at <= end && end < self.bytes.len() {
+            shift(self.bytes, at, end, v);
+            self.len = end + 1;
+        }
+    }
+
+    // A byte behind the last block.
+    #[tactic(auto, unfolding(crate::specs::Buffers::appended))]
+    pub fn append(&mut self, v: u8)
+        ensures { self.new ≡ appended self.old (v ∷ []) }
+    {
+        self.put(self.len, v);
+    }
+
+    // Three bytes behind it, which hold the low 21 bits of a number.
+    pub fn append3(&mut self, x: u32)
+        ensures { self.new ≡ appended self.old (three_bytes (x % 2097152)) }
+    {
+        let [_, high, middle, low] = x.to_be_bytes();
+        self.append(high % 32);
+        self.append(middle);
+        self.append(low);
+    }
+
+    // The last two blocks, from `at` to `mid` and on to the end, change places: each is reversed, and then the whole.
+    #[tactic(auto, using(crate::proofs::Holding::exchanging))]
+    pub fn exchange(&mut self, at: usize, mid: usize)
+        ensures { self.new ≡ buffer (exchanged self.old.bytes at mid self.old.end) self.old.end }
+    {
+        let end = self.len;
+        if at <= mid && mid <= end {
+            reverse(self.bytes, at, mid);
+            reverse(self.bytes, mid, end);
+            reverse(self.bytes, at, end);
+        }
+    }
 }

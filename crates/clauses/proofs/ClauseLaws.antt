@@ -14,11 +14,10 @@ use Rattle.tsparql.specs.Writing.{condition_bytes, three_bytes}
 use Rattle.grammar.specs.Tokens.{Token}
 use Rattle.grammar.specs.Grammar.{Variable, Primary, negatable, equal, less, primary_tokens, term, variable, bound, not, parens}
 use Rattle.grammar.specs.Meaning.{primary_of}
-use Rattle.blocks.specs.Buffers.{buffer, appended}
+use Rattle.blocks.specs.Buffers.{Filled, appended}
 use Rattle.blocks.specs.Blocks.{Holds}
 use Rattle.words.specs.Words.{words}
 use Rattle.clauses.specs.Clauses.{operand_bytes, operand_words, Operand}
-use Rattle.clauses.specs.declared.Block.{Block}
 use Rattle.grammar.proofs.Basics.{cond_cases}
 use Rattle.blocks.proofs.Holding.{appends}
 use Rattle.words.proofs.WordLaws.{word_at, words-on}
@@ -65,15 +64,15 @@ module _ (rest : List Token) where
 
 -- ---- what `operand` answers
 
-module _ (t out out' : List ℕ) (i n r w op x : ℕ) (first : w ≡ get_or t i 0) (second : op ≡ get_or t (i + 1) 0)
+module _ (t : List ℕ) (out out' : Filled) (i w op x : ℕ) (first : w ≡ get_or t i 0) (second : op ≡ get_or t (i + 1) 0)
     (third : x ≡ get_or t (i + 2) 0) where
   -- the bytes were written
   abbrev Adds : List ℕ → Type 0
-  Adds bs = buffer out' r ≡ appended (buffer out n) bs
+  Adds bs = out' ≡ appended out bs
 
   -- the answer where so many words were read
   abbrev Answer : ℕ → Type 0
-  Answer size = Operand t i n out out' (record { next = i + size; len = r })
+  Answer size = Operand t i out out' (i + size)
 
   answer : (size : ℕ) (bs : List ℕ) → size ≡ operand_words w → bs ≡ operand_bytes w op x → Adds bs → Answer size
   answer size bs e q a = record { behind = rw (sym first, e); bytes = rw (sym first, sym second, sym third, sym q) a }
@@ -91,23 +90,23 @@ module _ (t out out' : List ℕ) (i n r w op x : ℕ) (first : w ≡ get_or t i 
 
 -- ---- what that is of a primary
 
-module _ {t : List ℕ} {i n : ℕ} {out out' : List ℕ} {b : Block} (o : Operand t i n out out' b) where
-  pub operand-forward : i < b.next
+module _ {t : List ℕ} {i next : ℕ} {out out' : Filled} (o : Operand t i out out' next) where
+  pub operand-forward : i < next
   operand-forward =
       rw o.behind (cond_cases (λ (size : ℕ). i < i + size) (eqb (get_or t i 0) 66) (λ e. omega arith) (λ e. omega arith))
 
-  -- it was written behind n bytes, and b is where it ends; if it fits
+  -- it was written behind the end, if it fits
   pub operand-writes :
-      (p : Primary) (rest : List Token) (pre : List ℕ) → drop i t ≡ words (primary_tokens p rest) → (get_or t i 0 ≡ 33 → ⊥)
-      → (get_or t i 0 ≡ 40 → ⊥) → Holds out pre n → n + length (condition_bytes (primary_of p)) ≤ length out
-      → (drop b.next t ≡ words rest) × Holds out' (pre ++ condition_bytes (primary_of p)) b.len
-  operand-writes p rest pre here f g h room =
+      (all : ℕ) (p : Primary) (rest : List Token) (pre : List ℕ) → drop i t ≡ words (primary_tokens p rest) → (get_or t i 0 ≡ 33 → ⊥)
+      → (get_or t i 0 ≡ 40 → ⊥) → Holds out pre all → out.end + length (condition_bytes (primary_of p)) ≤ all
+      → (drop next t ≡ words rest) × Holds out' (pre ++ condition_bytes (primary_of p)) all
+  operand-writes all p rest pre here f g h room =
       let w₀ : get_or t i 0 ≡ word_of rest p 0 = ap (λ (k : ℕ). get_or t k 0) (sym (add-zero i)) ∙ word_at t _ i 0 here in
       let w₁ : get_or t (i + 1) 0 ≡ word_of rest p 1 = word_at t _ i 1 here in
       let w₂ : get_or t (i + 2) 0 ≡ word_of rest p 2 = word_at t _ i 2 here in
       let q = told rest p (λ z. f (w₀ ∙ z)) (λ z. g (w₀ ∙ z)) in
       let size = operand_words (get_or t i 0) in
       let behind : drop size (words (primary_tokens p rest)) ≡ words rest = rw w₀ q.behind in
-      let bytes : buffer out' b.len ≡ appended (buffer out n) (condition_bytes (primary_of p)) =
-      o.bytes ∙ ap (appended (buffer out n)) (rw (w₀, w₁, w₂) q.bytes) in
-      (ap (λ (k : ℕ). drop k t) o.behind ∙ words-on t _ i size here ∙ behind, appends _ bytes pre h room)
+      let bytes : out' ≡ appended out (condition_bytes (primary_of p)) =
+      o.bytes ∙ ap (appended out) (rw (w₀, w₁, w₂) q.bytes) in
+      (ap (λ (k : ℕ). drop k t) o.behind ∙ words-on t _ i size here ∙ behind, appends _ bytes all pre h room)

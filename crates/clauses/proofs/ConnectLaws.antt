@@ -10,11 +10,11 @@ use Rattle.tsparql.specs.Strikes.{ascii}
 use Rattle.tsparql.specs.Query.{Condition}
 use Rattle.tsparql.specs.Writing.{condition_bytes}
 use Rattle.grammar.specs.Tokens.{Token, mark, RPAREN}
+use Rattle.blocks.specs.Buffers.{Filled}
 use Rattle.blocks.specs.Blocks.{Holds, Puts}
 use Rattle.words.specs.Words.{words}
 use Rattle.clauses.specs.Tails.{Tail, close, and_then, or_then, tail_tokens, or_with, or_bytes}
 use Rattle.clauses.specs.Clauses.{State, Wrote, Connects}
-use Rattle.clauses.specs.declared.Block.{Block}
 use Rattle.words.proofs.WordLaws.{word_first, words-on, word-inside}
 use Rattle.clauses.proofs.TailLaws.{or_bytes_lem, operators, ends-least}
 
@@ -32,14 +32,14 @@ tail-first t i close rest e = (word_first t _ i _ e, word-inside t _ i _ e)
 tail-first t i (and_then p r) rest e = (word_first t _ i _ e, word-inside t _ i _ e)
 tail-first t i (or_then p r) rest e = (word_first t _ i _ e, word-inside t _ i _ e)
 
-module _ {t : List ℕ} {rest : List Token} {final : Condition} {pre out : List ℕ} {and : ℕ} {b : Block}
-    (w : Wrote t rest final pre out and b) where
+module _ {t : List ℕ} {rest : List Token} {final : Condition} {all : ℕ} {pre : List ℕ} {out : Filled} {and next : ℕ}
+    (w : Wrote t rest final all pre out and next) where
   -- the word behind the primary
-  wrote-next : (r : Tail) → w.later ≡ r → get_or t b.next 0 ≡ tail_word r
-  wrote-next r z = (tail-first t b.next r rest (rw z at w.written)).0
+  wrote-next : (r : Tail) → w.later ≡ r → get_or t next 0 ≡ tail_word r
+  wrote-next r z = (tail-first t next r rest (rw z at w.written)).0
 
   -- there is room for a byte for each operator to come
-  wrote-room : b.len + operators w.later ≤ length out
+  wrote-room : out.end + operators w.later ≤ all
   wrote-room =
       let or = or_bytes w.before in
       let bytes = condition_bytes w.conjunct in
@@ -47,19 +47,18 @@ module _ {t : List ℕ} {rest : List Token} {final : Condition} {pre out : List 
       let least = ends-least w.later w.before w.conjunct in
       omega (arith, w.holds.size, w.room, length-append pre (or ++ bytes), length-append or bytes)
 
-module _ (t out out' : List ℕ) (from and n : ℕ) (b : Block) where
+module _ (t : List ℕ) (out out' : Filled) (from and next : ℕ) where
   pub connect-and :
-      get_or t b.next 0 ≡ 38 → Puts out out' and b.len 80 n → length out' ≡ length out
-      → Connects t from out out' and b (record { next = b.next + 1; and = and; len = n })
-  connect-and e a same rest final pre f w = go w.later refl
+      get_or t next 0 ≡ 38 → Puts out out' and 80 → Connects t from out out' and next (record { next = next + 1; and = and })
+  connect-and e a all rest final pre f w = go w.later refl
     where
-      go : (r : Tail) → w.later ≡ r → State t rest final pre out' (record { next = b.next + 1; and = and; len = n })
+      go : (r : Tail) → w.later ≡ r → State t rest final all pre out' (record { next = next + 1; and = and })
       go close z = absurd (omega (arith, wrote-next w close z))
       go (or_then p r) z = absurd (omega (arith, wrote-next w (or_then p r) z))
       go (and_then p r) z =
           let or = or_bytes w.before in
-          let held : Holds out ((pre ++ or) ++ condition_bytes w.conjunct) b.len = rw append_assoc w.holds in
-          let put = a (pre ++ or) (condition_bytes w.conjunct) (length-append pre or ∙ sym w.place) held
+          let held : Holds out ((pre ++ or) ++ condition_bytes w.conjunct) all = rw append_assoc w.holds in
+          let put = a all (pre ++ or) (condition_bytes w.conjunct) (length-append pre or ∙ sym w.place) held
           (omega (arith, wrote-room w, ap operators z)) in
           inl (record {
             before = w.before;
@@ -67,7 +66,7 @@ module _ (t out out' : List ℕ) (from and n : ℕ) (b : Block) where
             nots = 0;
             first = p;
             later = r;
-            written = words-on t _ b.next 1 (rw z at w.written);
+            written = words-on t _ next 1 (rw z at w.written);
             means = rw z at w.means;
             holds = rw append-nil (rw append_assoc at put);
             place = w.place;
@@ -75,36 +74,36 @@ module _ (t out out' : List ℕ) (from and n : ℕ) (b : Block) where
           })
 
   pub connect-or :
-      get_or t b.next 0 ≡ 124 → Puts out out' from b.len 96 n → length out' ≡ length out
-      → Connects t from out out' and b (record { next = b.next + 1; and = n; len = n })
-  connect-or e a same rest final pre f w = go w.later refl
+      get_or t next 0 ≡ 124 → Puts out out' from 96 → (and' : ℕ) → and' ≡ out'.end
+      → Connects t from out out' and next (record { next = next + 1; and = and' })
+  connect-or e a and' at_end all rest final pre f w = go w.later refl
     where
-      go : (r : Tail) → w.later ≡ r → State t rest final pre out' (record { next = b.next + 1; and = n; len = n })
+      go : (r : Tail) → w.later ≡ r → State t rest final all pre out' (record { next = next + 1; and = and' })
       go close z = absurd (omega (arith, wrote-next w close z))
       go (and_then p r) z = absurd (omega (arith, wrote-next w (and_then p r) z))
       go (or_then p r) z =
           let d = or_with w.before w.conjunct in
-          let put = a pre (condition_bytes d) (sym f) (rw or_bytes_lem at w.holds) (omega (arith, wrote-room w, ap operators z)) in
+          let put = a all pre (condition_bytes d) (sym f) (rw or_bytes_lem at w.holds) (omega (arith, wrote-room w, ap operators z)) in
           inl (record {
             before = some d;
             prior = none;
             nots = 0;
             first = p;
             later = r;
-            written = words-on t _ b.next 1 (rw z at w.written);
+            written = words-on t _ next 1 (rw z at w.written);
             means = rw z at w.means;
             holds = rw (append-nil (96 ∷ condition_bytes d)) put;
-            place = put.size ∙ length-append pre (96 ∷ condition_bytes d);
+            place = at_end ∙ put.size ∙ length-append pre (96 ∷ condition_bytes d);
             room = omega (arith, w.room);
           })
 
 pub connect-end :
-    (t out : List ℕ) (from and : ℕ) (b : Block) → (get_or t b.next 0 ≡ 38 → ⊥) → (get_or t b.next 0 ≡ 124 → ⊥)
-    → Connects t from out out and b (record { next = b.next; and = and; len = b.len })
+    (t : List ℕ) (out : Filled) (from and next : ℕ) → (get_or t next 0 ≡ 38 → ⊥) → (get_or t next 0 ≡ 124 → ⊥)
+    → Connects t from out out and next (record { next = next; and = and })
 unfolding ascii
-connect-end t out from and b e g rest final pre f w = go w.later refl
+connect-end t out from and next e g all rest final pre f w = go w.later refl
   where
-    go : (r : Tail) → w.later ≡ r → State t rest final pre out (record { next = b.next; and = and; len = b.len })
+    go : (r : Tail) → w.later ≡ r → State t rest final all pre out (record { next = next; and = and })
     go close z = inr (record { written = rw z at w.written; holds = rw (or_bytes_lem, rw z at w.means) at w.holds })
     go (and_then p r) z = absurd (e (wrote-next w (and_then p r) z))
     go (or_then p r) z = absurd (g (wrote-next w (or_then p r) z))

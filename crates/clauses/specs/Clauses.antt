@@ -7,11 +7,10 @@ use Rattle.tsparql.specs.Writing.{condition_bytes, three_bytes}
 use Rattle.grammar.specs.Tokens.{Token, mark, RPAREN}
 use Rattle.grammar.specs.Grammar.{Disjunction, disjunction_tokens, Primary, primary_tokens}
 use Rattle.grammar.specs.Meaning.{disjunction_of, primary_of}
-use Rattle.blocks.specs.Buffers.{buffer, appended}
+use Rattle.blocks.specs.Buffers.{Filled, appended}
 use Rattle.blocks.specs.Blocks.{Holds}
 use Rattle.words.specs.Words.{words}
 use Rattle.clauses.specs.Tails.{Tail, tail_tokens, and_with, or_bytes, and_bytes, negations, not_bytes, ends_as}
-use Rattle.clauses.specs.declared.Block.{Block}
 use Rattle.clauses.specs.declared.Clause.{Clause}
 
 -- ---- a primary that begins with neither '!' nor '('
@@ -27,22 +26,22 @@ operand_bytes w op x =
 abbrev pub operand_words : ℕ → ℕ
 operand_words w = cond (eqb w 66) 4 3
 
--- the one whose words begin at i was written behind n bytes, and b is where it ends
-pub record Operand (t : List ℕ) (i n : ℕ) (out out' : List ℕ) (b : Block) : Type 0 where
-  pub behind : b.next ≡ i + operand_words (get_or t i 0)
-  pub bytes : buffer out' b.len ≡ appended (buffer out n) (operand_bytes (get_or t i 0) (get_or t (i + 1) 0) (get_or t (i + 2) 0))
+-- the one whose words begin at i was written behind the buffer's end, and its words end at `next`
+pub record Operand (t : List ℕ) (i : ℕ) (out out' : Filled) (next : ℕ) : Type 0 where
+  pub behind : next ≡ i + operand_words (get_or t i 0)
+  pub bytes : out' ≡ appended out (operand_bytes (get_or t i 0) (get_or t (i + 1) 0) (get_or t (i + 2) 0))
 
 -- ---- conditions
 
--- a condition was written behind `from` bytes, up to and over its closing parenthesis, and b is where it ends; if it fits
-abbrev pub Conditions : List ℕ → ℕ → ℕ → List ℕ → List ℕ → Block → Type 0
-Conditions t at from out out' b =
-    (d : Disjunction) (rest : List Token) (pre : List ℕ) → drop at t ≡ words (disjunction_tokens d (mark RPAREN ∷ rest))
-    → Holds out pre from → from + length (condition_bytes (disjunction_of d)) ≤ length out
-    → (drop b.next t ≡ words rest) × Holds out' (pre ++ condition_bytes (disjunction_of d)) b.len
+-- a condition was written behind the buffer's end, and its words end, over its closing parenthesis, at `next`; if it fits
+abbrev pub Conditions : List ℕ → ℕ → Filled → Filled → ℕ → Type 0
+Conditions t at out out' next =
+    (all : ℕ) (d : Disjunction) (rest : List Token) (pre : List ℕ) → drop at t ≡ words (disjunction_tokens d (mark RPAREN ∷ rest))
+    → Holds out pre all → out.end + length (condition_bytes (disjunction_of d)) ≤ all
+    → (drop next t ≡ words rest) × Holds out' (pre ++ condition_bytes (disjunction_of d)) all
 
 -- a primary is to come: behind what stands before the last `||`, behind what stands before the last `&&`, and behind so many `!`
-pub record Expects (t : List ℕ) (rest : List Token) (final : Condition) (pre out : List ℕ) (s : Clause) : Type 0 where
+pub record Expects (t : List ℕ) (rest : List Token) (final : Condition) (all : ℕ) (pre : List ℕ) (out : Filled) (s : Clause) : Type 0 where
   pub before : Option Condition
   pub prior : Option Condition
   pub nots : ℕ
@@ -50,32 +49,32 @@ pub record Expects (t : List ℕ) (rest : List Token) (final : Condition) (pre o
   pub later : Tail
   pub written : drop s.next t ≡ words (primary_tokens first (tail_tokens later (mark RPAREN ∷ rest)))
   pub means : ends_as before (and_with prior (negations nots (primary_of first))) later ≡ final
-  pub holds : Holds out (pre ++ (or_bytes before ++ (and_bytes prior ++ not_bytes nots))) s.len
+  pub holds : Holds out (pre ++ (or_bytes before ++ (and_bytes prior ++ not_bytes nots))) all
   pub place : s.and ≡ length pre + length (or_bytes before)
-  pub room : length pre + length (condition_bytes final) ≤ length out
+  pub room : length pre + length (condition_bytes final) ≤ all
 
 -- the closing parenthesis is to come
-pub record Ended (t : List ℕ) (rest : List Token) (final : Condition) (pre out : List ℕ) (s : Clause) : Type 0 where
+pub record Ended (t : List ℕ) (rest : List Token) (final : Condition) (all : ℕ) (pre : List ℕ) (out : Filled) (s : Clause) : Type 0 where
   pub written : drop s.next t ≡ 41 ∷ words rest
-  pub holds : Holds out (pre ++ condition_bytes final) s.len
+  pub holds : Holds out (pre ++ condition_bytes final) all
 
 -- one of the two
-abbrev pub State : List ℕ → List Token → Condition → List ℕ → List ℕ → Clause → Type 0
-State t rest final pre out s = Expects t rest final pre out s ⊎ Ended t rest final pre out s
+abbrev pub State : List ℕ → List Token → Condition → ℕ → List ℕ → Filled → Clause → Type 0
+State t rest final all pre out s = Expects t rest final all pre out s ⊎ Ended t rest final all pre out s
 
 -- a primary was written, behind what stands before the place `and`
-pub record Wrote (t : List ℕ) (rest : List Token) (final : Condition) (pre out : List ℕ) (and : ℕ) (b : Block) : Type 0 where
+pub record Wrote (t : List ℕ) (rest : List Token) (final : Condition) (all : ℕ) (pre : List ℕ) (out : Filled) (and next : ℕ) : Type 0 where
   pub before : Option Condition
   pub conjunct : Condition
   pub later : Tail
-  pub written : drop b.next t ≡ words (tail_tokens later (mark RPAREN ∷ rest))
+  pub written : drop next t ≡ words (tail_tokens later (mark RPAREN ∷ rest))
   pub means : ends_as before conjunct later ≡ final
-  pub holds : Holds out (pre ++ (or_bytes before ++ condition_bytes conjunct)) b.len
+  pub holds : Holds out (pre ++ (or_bytes before ++ condition_bytes conjunct)) all
   pub place : and ≡ length pre + length (or_bytes before)
-  pub room : length pre + length (condition_bytes final) ≤ length out
+  pub room : length pre + length (condition_bytes final) ≤ all
 
 -- the writing goes on over `&&` or `||`, or has come to the closing parenthesis
-abbrev pub Connects : List ℕ → ℕ → List ℕ → List ℕ → ℕ → Block → Clause → Type 0
-Connects t from out out' and b r =
-    (rest : List Token) (final : Condition) (pre : List ℕ) → from ≡ length pre → Wrote t rest final pre out and b
-    → State t rest final pre out' r
+abbrev pub Connects : List ℕ → ℕ → Filled → Filled → ℕ → ℕ → Clause → Type 0
+Connects t from out out' and next r =
+    (all : ℕ) (rest : List Token) (final : Condition) (pre : List ℕ) → from ≡ length pre → Wrote t rest final all pre out and next
+    → State t rest final all pre out' r

@@ -10,7 +10,7 @@ use Rattle.tsparql.specs.Query.{Node, ensure_trust}
 use Rattle.tsparql.specs.Writing.{node_bytes, three_bytes}
 use Rattle.grammar.specs.Grammar.{Thousandths, plus, minus}
 use Rattle.grammar.specs.Meaning.{Item, a_triple, a_group, an_optional, a_filter, a_projection, a_bound, bounded, value_of}
-use Rattle.blocks.specs.Buffers.{buffer, prepended}
+use Rattle.blocks.specs.Buffers.{Filled, prepended}
 use Rattle.blocks.specs.Blocks.{Holds}
 use Rattle.blocks.proofs.Holding.{prepends}
 use Rattle.words.specs.Words.{thousandths_word}
@@ -55,15 +55,15 @@ bound-value (minus n x y) = rw (le-ltb (4194304 + n) 4194304 (omega arith)) (ome
 -- ---- a turn
 
 pub bound-turn :
-    (t : List ℕ) (from : ℕ) (out out' : List ℕ) (i j n n' w w' a b : ℕ) → get_or t i 0 ≡ 69 → w ≡ get_or t (i + 3) 0 → w' ≡ get_or t (i + 5) 0
-    → a ≡ bound_in w → b ≡ bound_in w' → buffer out' n' ≡ prepended (buffer out n) from (96 ∷ three_bytes (4096 * a + b))
+    (t : List ℕ) (from : ℕ) (out out' : Filled) (i j w w' a b : ℕ) → get_or t i 0 ≡ 69 → w ≡ get_or t (i + 3) 0 → w' ≡ get_or t (i + 5) 0
+    → a ≡ bound_in w → b ≡ bound_in w' → out' ≡ prepended out from (96 ∷ three_bytes (4096 * a + b))
     → drop j t ≡ next_item (drop i t)
-    → Turn Node bounded node_bytes t from out out' i j n n'
+    → Turn Node bounded node_bytes t from out out' i j
 unfolding bounded node_bytes
-bound-turn t from out out' i j n n' w w' a b c x₁ x₂ lower upper put s is rest pre y walks start held room =
+bound-turn t from out out' i j w w' a b c x₁ x₂ lower upper put s all is rest pre y walks start held room =
     go (view-at t i 69 is rest c walks)
   where
-    go : View (drop i t) is rest k_bound → Made Node bounded node_bytes t rest pre (bounded y is) out' j n'
+    go : View (drop i t) is rest k_bound → Made Node bounded node_bytes t rest all pre (bounded y is) out' j
     go (at_bound l u ts later e q f) =
         let ea = lower ∙ ap bound_in (x₁ ∙ word_at t _ i 3 e) ∙ bound-value l in
         let eb = upper ∙ ap bound_in (x₂ ∙ word_at t _ i 5 e) ∙ bound-value u in
@@ -77,6 +77,6 @@ bound-turn t from out out' i j n n' w w' a b c x₁ x₂ lower upper put s is re
           walks = subst (λ (l : List ℕ). Walks l later rest) (sym s)
               (view-over (at_bound l u ts later e q f) (λ z. omega (arith, first_word t i)));
           makes = sym (ap (λ (js : List Item). bounded y js) q);
-          holds = subst (λ (x : ℕ). Holds out' (pre ++ (96 ∷ (three_bytes x ++ node_bytes y))) n')
+          holds = subst (λ (x : ℕ). Holds out' (pre ++ (96 ∷ (three_bytes x ++ node_bytes y))) all)
               (ap (λ (x : ℕ). 4096 * x + b) ea ∙ ap (λ (x : ℕ). 4096 * value_of l + x) eb) front;
         }

@@ -11,10 +11,10 @@ use Rattle.tsparql.specs.Query.{Condition}
 use Rattle.tsparql.specs.Writing.{condition_bytes}
 use Rattle.grammar.specs.Grammar as Gr
 use Rattle.grammar.specs.Meaning.{Item, a_triple, a_group, an_optional, a_filter, a_projection, a_bound, filters, conjoined, disjunction_of}
+use Rattle.blocks.specs.Buffers.{Filled}
 use Rattle.blocks.specs.Blocks.{Holds, Puts}
 use Rattle.words.proofs.WordLaws.{words-on}
 use Rattle.clauses.specs.Clauses.{Conditions}
-use Rattle.clauses.specs.declared.Block.{Block}
 use Rattle.groups.specs.Passes.{conjoin_filters, some_bytes}
 use Rattle.groups.proofs.Fronts.{k_filter, View, at_filter, view-at}
 use Rattle.groups.specs.Items.{item_word}
@@ -58,49 +58,49 @@ condition-large Q.always = omega arith
 -- ---- the turns
 
 pub filter-first :
-    (t : List ℕ) (from : ℕ) (out out' : List ℕ) (i n : ℕ) (b : Block) → get_or t i 0 ≡ 70 → n ≤ from → Conditions t (i + 2) n out out' b
-    → Turn (Option Condition) conjoin_filters some_bytes t from out out' i b.next n b.len
+    (t : List ℕ) (from : ℕ) (out out' : Filled) (i next : ℕ) → get_or t i 0 ≡ 70 → out.end ≤ from → Conditions t (i + 2) out out' next
+    → Turn (Option Condition) conjoin_filters some_bytes t from out out' i next
 unfolding filters
-filter-first t from out out' i n b c o writes is rest pre (some x) walks start held room =
+filter-first t from out out' i next c o writes all is rest pre (some x) walks start held room =
     let size = held.size in absurd (omega (arith, length-append pre (condition_bytes x), condition-large x))
-filter-first t from out out' i n b c o writes is rest pre none walks start held room = go (view-at t i 70 is rest c walks)
+filter-first t from out out' i next c o writes all is rest pre none walks start held room = go (view-at t i 70 is rest c walks)
   where
     go : View (drop i t) is rest k_filter
-        → Made (Option Condition) conjoin_filters some_bytes t rest pre (conjoin_filters none is) out' b.next b.len
+        → Made (Option Condition) conjoin_filters some_bytes t rest all pre (conjoin_filters none is) out' next
     go (at_filter d ts later e q f) =
         let size = held.size in
         let least = conjoined-least (filters later) (disjunction_of d) in
         let fits = ap (λ (js : List Item). length (some_bytes (conjoin_filters none js))) q in
-        let w = writes d ts (pre ++ []) (words-on t _ i 2 e) held (omega (arith, length-append pre [])) in
+        let w = writes all d ts (pre ++ []) (words-on t _ i 2 e) held (omega (arith, length-append pre [])) in
         record {
           later = later;
           now = some (disjunction_of d);
           walks = record { unions = Gr.none; tail = ts; written = w.0; follows = f };
           makes = sym (ap (λ (js : List Item). conjoin_filters none js) q);
-          holds = subst (λ (x : List ℕ). Holds out' (x ++ condition_bytes (disjunction_of d)) b.len) (append-nil pre) w.1;
+          holds = subst (λ (x : List ℕ). Holds out' (x ++ condition_bytes (disjunction_of d)) all) (append-nil pre) w.1;
         }
 
 pub filter_more :
-    (t : List ℕ) (from : ℕ) (out out₁ out' : List ℕ) (i n n' : ℕ) (b : Block) → get_or t i 0 ≡ 70 → from < n
-    → Conditions t (i + 2) n out out₁ b → length out₁ ≡ length out → Puts out₁ out' from b.len 80 n'
-    → Turn (Option Condition) conjoin_filters some_bytes t from out out' i b.next n n'
+    (t : List ℕ) (from : ℕ) (out out₁ out' : Filled) (i next : ℕ) → get_or t i 0 ≡ 70 → from < out.end
+    → Conditions t (i + 2) out out₁ next → Puts out₁ out' from 80
+    → Turn (Option Condition) conjoin_filters some_bytes t from out out' i next
 unfolding filters conjoined condition_bytes
-filter_more t from out out₁ out' i n n' b c o writes same put is rest pre none walks start held room =
+filter_more t from out out₁ out' i next c o writes put all is rest pre none walks start held room =
     let size = held.size in absurd (omega (arith, length-append pre []))
-filter_more t from out out₁ out' i n n' b c o writes same put is rest pre (some x) walks start held room =
+filter_more t from out out₁ out' i next c o writes put all is rest pre (some x) walks start held room =
     go (view-at t i 70 is rest c walks)
   where
     go : View (drop i t) is rest k_filter
-        → Made (Option Condition) conjoin_filters some_bytes t rest pre (conjoin_filters (some x) is) out' b.next n'
+        → Made (Option Condition) conjoin_filters some_bytes t rest all pre (conjoin_filters (some x) is) out' next
     go (at_filter d ts later e q f) =
         let size = held.size in
         let D = condition_bytes (disjunction_of d) in
         let X = condition_bytes x in
         let least = conjoined-least (filters later) (Q.conjunction x (disjunction_of d)) in
         let fits = ap (λ (js : List Item). length (some_bytes (conjoin_filters (some x) js))) q in
-        let w = writes d ts (pre ++ X) (words-on t _ i 2 e) held (omega (arith, length-append pre X, length-append X D)) in
+        let w = writes all d ts (pre ++ X) (words-on t _ i 2 e) held (omega (arith, length-append pre X, length-append X D)) in
         let size' = w.1.size in
-        let front = put pre (X ++ D) (sym start) (subst (λ (l : List ℕ). Holds out₁ l b.len) (append_assoc pre X D) w.1)
+        let front = put all pre (X ++ D) (sym start) (subst (λ (l : List ℕ). Holds out₁ l all) (append_assoc pre X D) w.1)
         (omega (arith, length-append pre X, length-append X D, length-append (pre ++ X) D)) in
         record {
           later = later;

@@ -10,6 +10,7 @@ use lib.ListN.{length, drop}
 use Rattle.grammar.specs.Tokens.{Token}
 use Rattle.grammar.specs.Grammar.{Body}
 use Rattle.grammar.specs.Meaning.{Item, items}
+use Rattle.blocks.specs.Buffers.{Filled}
 use Rattle.blocks.specs.Blocks.{Holds}
 use Rattle.groups.proofs.Fronts.{items-walks, body-items}
 use Rattle.groups.specs.Items.{Walks, item_word, Skips, skips_none, skips_one, Seeks}
@@ -18,52 +19,48 @@ use Rattle.std.proofs.Common.{Some, None}
 
 -- y has become `now` by the items before the place i, and will be z
 pub record Made
-    (S : Type 0) (f : S → List Item → S) (bytes : S → List ℕ) (t : List ℕ) (rest : List Token) (pre : List ℕ) (z : S) (out : List ℕ)
-    (i n : ℕ) : Type 0 where
+    (S : Type 0) (f : S → List Item → S) (bytes : S → List ℕ) (t : List ℕ) (rest : List Token) (all : ℕ) (pre : List ℕ) (z : S)
+    (out : Filled) (i : ℕ) : Type 0 where
   pub later : List Item
   pub now : S
   pub walks : Walks (drop i t) later rest
   pub makes : f now later ≡ z
-  pub holds : Holds out (pre ++ bytes now) n
+  pub holds : Holds out (pre ++ bytes now) all
 
 -- so it is whatever body stands at the place at which the pass began
 pub record Making
-    (S : Type 0) (f : S → List Item → S) (bytes : S → List ℕ) (t : List ℕ) (at from n₀ : ℕ) (out₀ out : List ℕ) (i n : ℕ) : Type 0 where
-  pub same : length out ≡ length out₀
+    (S : Type 0) (f : S → List Item → S) (bytes : S → List ℕ) (t : List ℕ) (at from : ℕ) (out₀ out : Filled) (i : ℕ) : Type 0 where
   pub stands :
-      (b : Body true) (rest : List Token) (pre : List ℕ) (x : S) → BodyAt t at b rest → from ≡ length pre → Holds out₀ (pre ++ bytes x) n₀
-      → length pre + length (bytes (f x (items b))) ≤ length out₀ → Made S f bytes t rest pre (f x (items b)) out i n
+      (all : ℕ) (b : Body true) (rest : List Token) (pre : List ℕ) (x : S) → BodyAt t at b rest → from ≡ length pre → Holds out₀ (pre ++ bytes x) all
+      → length pre + length (bytes (f x (items b))) ≤ all → Made S f bytes t rest all pre (f x (items b)) out i
 
 -- one turn of the loop, from i to j
 abbrev pub Turn :
-    (S : Type 0) → (S → List Item → S) → (S → List ℕ) → List ℕ → ℕ → List ℕ → List ℕ → ℕ → ℕ → ℕ → ℕ → Type 0
-Turn S f bytes t from out out' i j n n' =
-    (is : List Item) (rest : List Token) (pre : List ℕ) (y : S) → Walks (drop i t) is rest → from ≡ length pre
-    → Holds out (pre ++ bytes y) n → length pre + length (bytes (f y is)) ≤ length out → Made S f bytes t rest pre (f y is) out' j n'
+    (S : Type 0) → (S → List Item → S) → (S → List ℕ) → List ℕ → ℕ → Filled → Filled → ℕ → ℕ → Type 0
+Turn S f bytes t from out out' i j =
+    (all : ℕ) (is : List Item) (rest : List Token) (pre : List ℕ) (y : S) → Walks (drop i t) is rest → from ≡ length pre
+    → Holds out (pre ++ bytes y) all → length pre + length (bytes (f y is)) ≤ all → Made S f bytes t rest all pre (f y is) out' j
 
-module _ (S : Type 0) (f : S → List Item → S) (bytes : S → List ℕ) (t : List ℕ) (at from n₀ : ℕ) (out₀ : List ℕ) where
-  pub making-first : Making S f bytes t at from n₀ out₀ out₀ at n₀
+module _ (S : Type 0) (f : S → List Item → S) (bytes : S → List ℕ) (t : List ℕ) (at from : ℕ) (out₀ : Filled) where
+  pub making-first : Making S f bytes t at from out₀ out₀ at
   making-first =
       record {
-        same = refl;
         stands =
-            λ b rest pre x w e h r.
+            λ all b rest pre x w e h r.
             record { later = items b; now = x; walks = items-walks (body-items t at b rest w); makes = refl; holds = h };
       }
 
   pub making-on :
-      (out out' : List ℕ) (i j n n' : ℕ) → length out' ≡ length out → Turn S f bytes t from out out' i j n n'
-      → Making S f bytes t at from n₀ out₀ out i n → Making S f bytes t at from n₀ out₀ out' j n'
-  making-on out out' i j n n' same turn m =
-      let s = m.same in
+      (out out' : Filled) (i j : ℕ) → Turn S f bytes t from out out' i j
+      → Making S f bytes t at from out₀ out i → Making S f bytes t at from out₀ out' j
+  making-on out out' i j turn m =
       record {
-        same = same ∙ s;
         stands =
-            λ b rest pre x w e h room.
-            (let d = m.stands b rest pre x w e h room in
-            let fits : length pre + length (bytes (f d.now d.later)) ≤ length out =
+            λ all b rest pre x w e h room.
+            (let d = m.stands all b rest pre x w e h room in
+            let fits : length pre + length (bytes (f d.now d.later)) ≤ all =
             omega (arith, ap (λ (y : S). length (bytes y)) d.makes) in
-            let c = turn d.later rest pre d.now d.walks e d.holds fits in
+            let c = turn all d.later rest pre d.now d.walks e d.holds fits in
             record { later = c.later; now = c.now; walks = c.walks; makes = c.makes ∙ d.makes; holds = c.holds });
       }
 
@@ -74,21 +71,20 @@ module _ (S : Type 0) (f : S → List Item → S) (bytes : S → List ℕ) (t : 
     skipped y (skips_one x is other more) = skipped y more ∙ over y x is other
 
     pub making-at :
-        (out : List ℕ) (i j n : ℕ) → Seeks w t i (Some j) → Making S f bytes t at from n₀ out₀ out i n → Making S f bytes t at from n₀ out₀ out j n
-    making-at out i j n seeks m =
+        (out : Filled) (i j : ℕ) → Seeks w t i (Some j) → Making S f bytes t at from out₀ out i → Making S f bytes t at from out₀ out j
+    making-at out i j seeks m =
         record {
-          same = m.same;
           stands =
-              λ b rest pre x begins e h r.
-              (let d = m.stands b rest pre x begins e h r in
+              λ all b rest pre x begins e h r.
+              (let d = m.stands all b rest pre x begins e h r in
               let s = seeks.3 d.later rest d.walks in
               record { later = s.0; now = d.now; walks = s.1; makes = skipped d.now s.2 ∙ d.makes; holds = d.holds });
         }
 
     pub making-end :
-        (out : List ℕ) (i n : ℕ) → ((x : S) → f x [] ≡ x) → Seeks w t i None → Making S f bytes t at from n₀ out₀ out i n
-        → Makes S f bytes t at from out₀ out n₀ n
-    making-end out i n nil seeks m b rest pre x begins e h room =
-        let d = m.stands b rest pre x begins e h room in
+        (out : Filled) (i : ℕ) → ((x : S) → f x [] ≡ x) → Seeks w t i None → Making S f bytes t at from out₀ out i
+        → Makes S f bytes t at from out₀ out
+    making-end out i nil seeks m all b rest pre x begins e h room =
+        let d = m.stands all b rest pre x begins e h room in
         let done : d.now ≡ f x (items b) = sym (nil d.now) ∙ skipped d.now (seeks d.later rest d.walks) ∙ d.makes in
-        subst (λ (y : S). Holds out (pre ++ bytes y) n) done d.holds
+        subst (λ (y : S). Holds out (pre ++ bytes y) all) done d.holds

@@ -8,6 +8,7 @@ use lib.ListN.{length, drop, get_or, length-append}
 use Rattle.tsparql.specs.Query.{Node, project_trust}
 use Rattle.tsparql.specs.Writing.{node_bytes}
 use Rattle.grammar.specs.Meaning.{Item, a_triple, a_group, an_optional, a_filter, a_projection, a_bound, projected}
+use Rattle.blocks.specs.Buffers.{Filled}
 use Rattle.blocks.specs.Blocks.{Holds, Puts}
 use Rattle.words.proofs.WordLaws.{word_at}
 use Rattle.groups.proofs.Fronts.{k_projection, View, at_projection, first_word, view-at, view-over, next_item}
@@ -40,24 +41,24 @@ projected-least (a_projection v ∷ is) x = let h = projected-least is (project_
 projected-least (a_bound l u ∷ is) x = projected-least is x
 
 pub projection-turn :
-    (t : List ℕ) (from : ℕ) (out out' : List ℕ) (i j n n' w : ℕ) → get_or t i 0 ≡ 84 → w ≡ get_or t (i + 2) 0
-    → Puts out out' from n (80 + w % 16) n' → drop j t ≡ next_item (drop i t) → Turn Node projected node_bytes t from out out' i j n n'
+    (t : List ℕ) (from : ℕ) (out out' : Filled) (i j w : ℕ) → get_or t i 0 ≡ 84 → w ≡ get_or t (i + 2) 0
+    → Puts out out' from (80 + w % 16) → drop j t ≡ next_item (drop i t) → Turn Node projected node_bytes t from out out' i j
 unfolding projected node_bytes
-projection-turn t from out out' i j n n' w c a put s is rest pre y walks start held room = go (view-at t i 84 is rest c walks)
+projection-turn t from out out' i j w c a put s all is rest pre y walks start held room = go (view-at t i 84 is rest c walks)
   where
-    go : View (drop i t) is rest k_projection → Made Node projected node_bytes t rest pre (projected y is) out' j n'
+    go : View (drop i t) is rest k_projection → Made Node projected node_bytes t rest all pre (projected y is) out' j
     go (at_projection v ts later e q f) =
         let small = v.small in
         let byte : 80 + w % 16 ≡ 80 + v.name = omega (arith, word_at t _ i 2 e) in
         let size = held.size in
         let least = projected-least later (project_trust v.name y) in
         let fits = ap (λ (js : List Item). length (node_bytes (projected y js))) q in
-        let front = put pre (node_bytes y) (sym start) held (omega (arith, length-append pre (node_bytes y))) in
+        let front = put all pre (node_bytes y) (sym start) held (omega (arith, length-append pre (node_bytes y))) in
         record {
           later = later;
           now = project_trust v.name y;
           walks = subst (λ (l : List ℕ). Walks l later rest) (sym s)
               (view-over (at_projection v ts later e q f) (λ z. omega (arith, first_word t i)));
           makes = sym (ap (λ (js : List Item). projected y js) q);
-          holds = subst (λ (x : ℕ). Holds out' (pre ++ (x ∷ node_bytes y)) n') byte front;
+          holds = subst (λ (x : ℕ). Holds out' (pre ++ (x ∷ node_bytes y)) all) byte front;
         }

@@ -7,9 +7,9 @@ use Rattle.tsparql.specs.Writing.{node_bytes, condition_bytes}
 use Rattle.grammar.specs.Tokens.{Token}
 use Rattle.grammar.specs.Grammar.{Body, body_tokens}
 use Rattle.grammar.specs.Meaning.{Item, gathered, filters, conjoined, condition, unfiltered, group_node, items}
+use Rattle.blocks.specs.Buffers.{Filled}
 use Rattle.blocks.specs.Blocks.{Holds}
 use Rattle.words.specs.Words.{words}
-use Rattle.groups.specs.declared.Halves.{Halves}
 
 -- the words of the body b stand at a place, and then those of rest
 abbrev pub BodyAt : List ℕ → ℕ → Body true → List Token → Type 0
@@ -18,10 +18,10 @@ BodyAt t at b rest = drop at t ≡ words (body_tokens b rest)
 -- ---- one pass
 
 -- the block of x became that of f x is by the items is of the body, if it fits
-abbrev pub Makes : (S : Type 0) → (S → List Item → S) → (S → List ℕ) → List ℕ → ℕ → ℕ → List ℕ → List ℕ → ℕ → ℕ → Type 0
-Makes S f bytes t at from out out' n r =
-    (b : Body true) (rest : List Token) (pre : List ℕ) (x : S) → BodyAt t at b rest → from ≡ length pre → Holds out (pre ++ bytes x) n
-    → length pre + length (bytes (f x (items b))) ≤ length out → Holds out' (pre ++ bytes (f x (items b))) r
+abbrev pub Makes : (S : Type 0) → (S → List Item → S) → (S → List ℕ) → List ℕ → ℕ → ℕ → Filled → Filled → Type 0
+Makes S f bytes t at from out out' =
+    (all : ℕ) (b : Body true) (rest : List Token) (pre : List ℕ) (x : S) → BodyAt t at b rest → from ≡ length pre → Holds out (pre ++ bytes x) all
+    → length pre + length (bytes (f x (items b))) ≤ all → Holds out' (pre ++ bytes (f x (items b))) all
 
 -- conditions joined by and, behind one that may stand before them
 abbrev pub conjoin : Option Condition → List Condition → Option Condition
@@ -38,9 +38,9 @@ abbrev pub some_bytes : Option Condition → List ℕ
 some_bytes none = []
 some_bytes (some c) = condition_bytes c
 
--- the filters of the body, joined by and, were written behind `from` bytes
-abbrev pub Conjoins : List ℕ → ℕ → ℕ → List ℕ → List ℕ → ℕ → Type 0
-Conjoins t at from out out' r = Makes (Option Condition) conjoin_filters some_bytes t at from out out' from r
+-- the filters of the body, joined by and, were written behind the end
+abbrev pub Conjoins : List ℕ → ℕ → Filled → Filled → Type 0
+Conjoins t at out out' = Makes (Option Condition) conjoin_filters some_bytes t at out.end out out'
 
 -- ---- a group
 
@@ -49,24 +49,24 @@ abbrev pub gathered_bytes : Body true → List ℕ
 gathered_bytes b = node_bytes (gathered (pattern_set []) [] (items b))
 
 -- it became that of the group without its filters
-abbrev pub Unfilters : List ℕ → ℕ → ℕ → List ℕ → List ℕ → ℕ → ℕ → Type 0
-Unfilters t at from out out' n r =
-    (b : Body true) (rest : List Token) (pre : List ℕ) → BodyAt t at b rest → from ≡ length pre → Holds out (pre ++ gathered_bytes b) n
-    → length pre + length (node_bytes (unfiltered (items b))) ≤ length out → Holds out' (pre ++ node_bytes (unfiltered (items b))) r
+abbrev pub Unfilters : List ℕ → ℕ → ℕ → Filled → Filled → Type 0
+Unfilters t at from out out' =
+    (all : ℕ) (b : Body true) (rest : List Token) (pre : List ℕ) → BodyAt t at b rest → from ≡ length pre → Holds out (pre ++ gathered_bytes b) all
+    → length pre + length (node_bytes (unfiltered (items b))) ≤ all → Holds out' (pre ++ node_bytes (unfiltered (items b))) all
 
 -- it became that of the group with its filters
-abbrev pub Filters : List ℕ → ℕ → ℕ → List ℕ → List ℕ → ℕ → ℕ → Type 0
-Filters t at from out out' n r =
-    (b : Body true) (rest : List Token) (pre : List ℕ) → BodyAt t at b rest → from ≡ length pre → Holds out (pre ++ gathered_bytes b) n
-    → length pre + length (node_bytes (group_node (items b))) ≤ length out → Holds out' (pre ++ node_bytes (group_node (items b))) r
+abbrev pub Filters : List ℕ → ℕ → ℕ → Filled → Filled → Type 0
+Filters t at from out out' =
+    (all : ℕ) (b : Body true) (rest : List Token) (pre : List ℕ) → BodyAt t at b rest → from ≡ length pre → Holds out (pre ++ gathered_bytes b) all
+    → length pre + length (node_bytes (group_node (items b))) ≤ all → Holds out' (pre ++ node_bytes (group_node (items b))) all
 
 -- it became that of an OPTIONAL's group, and the condition of the left join stands behind it
-abbrev pub Splits : List ℕ → ℕ → ℕ → List ℕ → List ℕ → ℕ → Halves → Type 0
-Splits t at from out out' n r =
-    (b : Body true) (rest : List Token) (pre : List ℕ) → BodyAt t at b rest → from ≡ length pre → Holds out (pre ++ gathered_bytes b) n
-    → length pre + length (node_bytes (unfiltered (items b))) + length (condition_bytes (condition (filters (items b)))) ≤ length out
-    → (r.mid ≡ length pre + length (node_bytes (unfiltered (items b))))
-    × Holds out' (pre ++ (node_bytes (unfiltered (items b)) ++ condition_bytes (condition (filters (items b))))) r.len
+abbrev pub Splits : List ℕ → ℕ → ℕ → Filled → Filled → ℕ → Type 0
+Splits t at from out out' mid =
+    (all : ℕ) (b : Body true) (rest : List Token) (pre : List ℕ) → BodyAt t at b rest → from ≡ length pre → Holds out (pre ++ gathered_bytes b) all
+    → length pre + length (node_bytes (unfiltered (items b))) + length (condition_bytes (condition (filters (items b)))) ≤ all
+    → (mid ≡ length pre + length (node_bytes (unfiltered (items b))))
+    × Holds out' (pre ++ (node_bytes (unfiltered (items b)) ++ condition_bytes (condition (filters (items b))))) all
 
 -- ---- bounds
 

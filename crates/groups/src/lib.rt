@@ -5,22 +5,15 @@ ghost use Rattle.std.specs.Prelude.{◌∷◌, ◌≡◌, ◌≤◌, ◌<◌, If
 ghost use Rattle.tsparql.specs.Query.{Node};
 ghost use Rattle.tsparql.specs.Writing.{node_bytes, three_bytes};
 ghost use Rattle.grammar.specs.Meaning.{projected, bounded};
-ghost use Rattle.blocks.specs.Buffers.{buffer, prepended};
+ghost use Rattle.blocks.specs.Buffers.{prepended};
 ghost use Rattle.groups.specs.Items.{next_place, Seeks};
 ghost use Rattle.groups.specs.Passes.{Makes, Conjoins, Unfilters, Filters, Splits, bound_in};
 
-use blocks::{append, exchange, put};
+use blocks::Buffer;
 use clauses::condition;
 use words::{
     ENSURE, FILTER, FIRST_NEGATIVE, FIRST_VARIABLE, LBRACE, OPTIONAL, RBRACE, TRUST, Text, UNION,
 };
-
-// Two blocks, one behind the other.
-#[derive(Clone, Copy)]
-pub struct Halves {
-    pub mid: usize,
-    pub len: usize,
-}
 
 // From one item of a group to the next.
 #[tactic(auto, unfolding(crate::specs::Items::next_place))]
@@ -58,17 +51,15 @@ fn find_item(t: &Text, at: usize, first: u32) -> Option<usize>
 }
 
 // The projections of the group at a place, around the block behind `from` bytes.
-fn projections(t: &Text, at: usize, out: &mut [u8], from: usize, len: usize) -> usize
-    ensures { Makes Node projected node_bytes t.now at from out.old out.new len result }
+fn projections(t: &Text, at: usize, out: &mut Buffer<'_>, from: usize)
+    ensures { Makes Node projected node_bytes t.now at from out.old out.new }
 {
     let mut next = at;
-    let mut n = len;
     while let Some(i) = find_item(t, next, TRUST) {
         let v = t.word(i + 2);
-        n = put(out, from, n, (80 + v % 16) as u8);
+        out.put(from, (80 + v % 16) as u8);
         next = step(t, i);
     }
-    n
 }
 
 // A bound from its word, plus 1000.
@@ -84,82 +75,75 @@ fn thousandths(w: u32) -> u32
 }
 
 // The bytes of ensure trust in front of a block.
-fn put4(out: &mut [u8], at: usize, end: usize, x: u32) -> usize
+fn put4(out: &mut Buffer<'_>, at: usize, x: u32)
     requires { x < 16777216 }
-    ensures { buffer out.new result ≡ prepended (buffer out.old end) at (96 ∷ three_bytes x) }
+    ensures { out.new ≡ prepended out.old at (96 ∷ three_bytes x) }
 {
     let [_, high, middle, low] = x.to_be_bytes();
-    let a = put(out, at, end, low);
-    let b = put(out, at, a, middle);
-    let c = put(out, at, b, high);
-    put(out, at, c, 96)
+    out.put(at, low);
+    out.put(at, middle);
+    out.put(at, high);
+    out.put(at, 96);
 }
 
 // The bounds of the group at a place, around the block behind `from` bytes.
-fn bounds(t: &Text, at: usize, out: &mut [u8], from: usize, len: usize) -> usize
-    ensures { Makes Node bounded node_bytes t.now at from out.old out.new len result }
+fn bounds(t: &Text, at: usize, out: &mut Buffer<'_>, from: usize)
+    ensures { Makes Node bounded node_bytes t.now at from out.old out.new }
 {
     let mut next = at;
-    let mut n = len;
     while let Some(i) = find_item(t, next, ENSURE) {
         let l = thousandths(t.word(i + 3));
         let u = thousandths(t.word(i + 5));
-        n = put4(out, from, n, 4096 * l + u);
+        put4(out, from, 4096 * l + u);
         next = step(t, i);
     }
-    n
 }
 
-// The filters of the group at a place, joined by and, behind `from` bytes.
-fn conjunction(t: &Text, at: usize, out: &mut [u8], from: usize) -> usize
-    ensures { Conjoins t.now at from out.old out.new result }
+// The filters of the group at a place, joined by and, behind the end.
+fn conjunction(t: &Text, at: usize, out: &mut Buffer<'_>)
+    ensures { Conjoins t.now at out.old out.new }
 {
+    let from = out.len();
     let mut next = at;
-    let mut n = from;
     while let Some(i) = find_item(t, next, FILTER) {
-        let b = condition(t.words(), i + 2, out, n);
-        next = b.next;
-        n = if from < n {
-            put(out, from, b.len, 80)
-        } else {
-            b.len
-        };
+        let n = out.len();
+        next = condition(t.words(), i + 2, out);
+        if from < n {
+            out.put(from, 80);
+        }
     }
-    n
 }
 
 // The group at a place without its filters, from what is joined in it.
-fn unfiltered(t: &Text, at: usize, out: &mut [u8], from: usize, len: usize) -> usize
-    ensures { Unfilters t.now at from out.old out.new len result }
+fn unfiltered(t: &Text, at: usize, out: &mut Buffer<'_>, from: usize)
+    ensures { Unfilters t.now at from out.old out.new }
 {
-    let n = projections(t, at, out, from, len);
-    bounds(t, at, out, from, n)
+    projections(t, at, out, from);
+    bounds(t, at, out, from);
 }
 
 // The same with its filters.
-pub fn filtered(t: &Text, at: usize, out: &mut [u8], from: usize, len: usize) -> usize
-    ensures { Filters t.now at from out.old out.new len result }
+pub fn filtered(t: &Text, at: usize, out: &mut Buffer<'_>, from: usize)
+    ensures { Filters t.now at from out.old out.new }
 {
-    let m = unfiltered(t, at, out, from, len);
-    let c = conjunction(t, at, out, m);
-    if c <= m {
-        return m;
+    unfiltered(t, at, out, from);
+    let mid = out.len();
+    conjunction(t, at, out);
+    if mid < out.len() {
+        out.exchange(from, mid);
+        out.put(from, 64);
     }
-    exchange(out, from, m, c);
-    put(out, from, c, 64)
 }
 
-// The group of an OPTIONAL, and the condition of its left join behind it.
-pub fn split(t: &Text, at: usize, out: &mut [u8], from: usize, len: usize) -> Halves
-    ensures { Splits t.now at from out.old out.new len result }
+// The group of an OPTIONAL, and behind it the condition of its left join: where that begins.
+pub fn split(t: &Text, at: usize, out: &mut Buffer<'_>, from: usize) -> usize
+    ensures { Splits t.now at from out.old out.new result }
 {
-    let mid = unfiltered(t, at, out, from, len);
-    let c = conjunction(t, at, out, mid);
-    if c <= mid {
-        return Halves {
-            mid,
-            len: append(out, mid, 112),
-        };
+    unfiltered(t, at, out, from);
+    let mid = out.len();
+    conjunction(t, at, out);
+    if out.len() <= mid {
+        out.append(112);
     }
-    Halves { mid, len: c }
+    mid
 }

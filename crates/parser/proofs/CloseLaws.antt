@@ -20,13 +20,12 @@ use Rattle.grammar.specs.Grammar.{Body, body_tokens, Unions, unions_tokens}
 use Rattle.grammar.specs.Meaning.{Item, a_group, is_empty_set, joined, gathered, items, united, filters, condition, unfiltered, group_node}
 use Rattle.grammar.specs.Meaning.{optional_item}
 use Rattle.grammar.proofs.Sizes.{tree-size, group-size, optional-size}
+use Rattle.blocks.specs.Buffers.{Filled}
 use Rattle.blocks.specs.Blocks.{Holds, Puts, Exchanges}
 use Rattle.words.specs.Words.{words, token_word}
 use Rattle.words.proofs.WordLaws.{word_first, words-on}
-use Rattle.clauses.specs.declared.Block.{Block}
 use Rattle.groups.specs.Items.{Items, Follows}
 use Rattle.groups.specs.Passes.{Filters, Splits}
-use Rattle.groups.specs.declared.Halves.{Halves}
 use Rattle.groups.proofs.Fronts.{k_group, k_optional, View, at_group, at_optional, items-walks, items-first, first_word, view-at}
 use Rattle.parser.specs.Sets.{pending_bytes, union_with, Unites, Joins}
 use Rattle.parser.specs.Stages.{Coming, body_place, Stands, Gathers, Closes}
@@ -110,7 +109,7 @@ joined-size x y = go (is_empty_set x) (is_empty_set y)
 -- ---- united with what waits
 
 -- the operand z stands behind x, its union may go on at j, and then items
-record United (t : List ℕ) (rest : List Token) (pre out : List ℕ) (x : Node) (is : List Item) (j n : ℕ) : Type 0 where
+record United (t : List ℕ) (rest : List Token) (all : ℕ) (pre : List ℕ) (out : Filled) (x : Node) (is : List Item) (j : ℕ) : Type 0 where
   operand : Node
   unions : Unions
   tail : List Token
@@ -118,17 +117,16 @@ record United (t : List ℕ) (rest : List Token) (pre out : List ℕ) (x : Node)
   written : drop j t ≡ words (unions_tokens unions tail)
   means : is ≡ a_group (united operand unions) ∷ later
   follows : Follows tail later rest
-  holds : Holds out ((pre ++ node_bytes x) ++ node_bytes operand) n
-  room : n + 1 + 4 * length (unions_tokens unions tail) ≤ length out + 4 * length rest + 1
+  holds : Holds out ((pre ++ node_bytes x) ++ node_bytes operand) all
+  room : out.end + 1 + 4 * length (unions_tokens unions tail) ≤ all + 4 * length rest + 1
 
-module _ (t : List ℕ) (rest : List Token) (pre out₀ : List ℕ) (final : Node) (from a : ℕ) (g : Stage) (b : Block)
-    (s : Stands t rest final from pre out₀ g) where
+module _ (t : List ℕ) (rest : List Token) (all : ℕ) (pre : List ℕ) (out₀ : Filled) (final : Node) (from a : ℕ) (g : Stage) (end next : ℕ)
+    (s : Stands t rest final from all pre out₀ g) where
   close-united :
-      (out out₁ out₂ : List ℕ) (n n₂ : ℕ) → Some a ≡ body_place (get_or t g.next 0) g.next → (get_or t g.next 0 ≡ 79 → ⊥)
-      → length out ≡ length out₀ → length out₁ ≡ length out → length out₂ ≡ length out₁ → Gathers t a g.len out₀ out b
-      → Filters t a g.len out out₁ b.len n → Unites out₁ out₂ g.mid g.len n n₂
-      → United t rest pre out₂ (joined s.left (pattern_set s.run)) s.items b.next n₂
-  close-united out out₁ out₂ n n₂ place w same₀ same₁ same₂ gather filter unite =
+      (out out₁ out₂ : Filled) → Some a ≡ body_place (get_or t g.next 0) g.next → (get_or t g.next 0 ≡ 79 → ⊥)
+      → end ≡ out₀.end → Gathers t a out₀ out next → Filters t a end out out₁ → Unites out₁ out₂ g.mid end
+      → United t rest all pre out₂ (joined s.left (pattern_set s.run)) s.items next
+  close-united out out₁ out₂ place w ends gather filter unite =
       let less = body-forward (get_or t g.next 0) g.next a place in
       let p = s.pending in
       let x = joined s.left (pattern_set s.run) in
@@ -141,7 +139,7 @@ module _ (t : List ℕ) (rest : List Token) (pre out₀ : List ℕ) (final : Nod
       let room = s.room in
       let middle = s.middle in
       let size = s.holds.size in
-      let inside = stage-inside t rest final from pre out₀ g s in
+      let inside = stage-inside t rest final from all pre out₀ g s in
       let words₁ = ap length o.written in
       let words₂ = length-map (body_tokens o.inner us) token_word in
       let words₃ = length-drop g.next t in
@@ -152,14 +150,14 @@ module _ (t : List ℕ) (rest : List Token) (pre out₀ : List ℕ) (final : Nod
       let follow = follows-longer _ _ _ o.follows in
       let wide = length-append pre (J ++ P) in
       let wide₂ = length-append J P in
-      let h = gather o.inner us (pre ++ (J ++ P)) o.written s.holds (omega arith) in
-      let h₁ = filter o.inner us (pre ++ (J ++ P)) o.written size h.1 (omega arith) in
+      let h = gather all o.inner us (pre ++ (J ++ P)) o.written s.holds (omega arith) in
+      let h₁ = filter all o.inner us (pre ++ (J ++ P)) o.written (ends ∙ size) h.1 (omega arith) in
       let size₁ = h₁.size in
       let wide₃ = length-append (pre ++ (J ++ P)) (node_bytes G) in
       let flat : (pre ++ (J ++ P)) ++ node_bytes G ≡ (pre ++ J) ++ (P ++ node_bytes G) =
       ap (λ (l : List ℕ). l ++ node_bytes G) (sym (append_assoc pre J P)) ∙ append_assoc (pre ++ J) P (node_bytes G) in
       let wide₄ = length-append pre J in
-      let h₂ = unite (pre ++ J) p G (omega arith) (omega arith) (subst (λ (l : List ℕ). Holds out₁ l n) flat h₁) (omega arith) in
+      let h₂ = unite all (pre ++ J) p G (omega arith) (omega arith) (subst (λ (l : List ℕ). Holds out₁ l all) flat h₁) (omega arith) in
       let size₂ = h₂.size in
       let wide₅ = length-append (pre ++ J) (node_bytes Z) in
       let most = union_with-size p G in
@@ -188,34 +186,33 @@ unfolding united
 united-none z = refl
 
 pub close-join :
-    (t out out₁ out₂ out₃ : List ℕ) (a from n n₂ n₃ : ℕ) (g : Stage) (b : Block) → (get_or t g.next 0 ≡ 79 → ⊥)
-    → (get_or t b.next 0 ≡ 85 → ⊥) → length out₁ ≡ length out → length out₂ ≡ length out₁ → length out₃ ≡ length out₂
-    → Filters t a g.len out out₁ b.len n → Unites out₁ out₂ g.mid g.len n n₂ → Joins out₂ out₃ from g.mid n₂ n₃
-    → Closes t a from out out₃ g b (record { next = b.next; mid = n₃; len = n₃; run = 0 })
+    (t : List ℕ) (out out₁ out₂ out₃ : Filled) (a from end next mid : ℕ) (g : Stage) → (get_or t g.next 0 ≡ 79 → ⊥)
+    → (get_or t next 0 ≡ 85 → ⊥) → Filters t a end out out₁ → Unites out₁ out₂ g.mid end → Joins out₂ out₃ from g.mid
+    → mid ≡ out₃.end → Closes t a from out out₃ g end next (record { next = next; mid = mid; run = 0 })
 unfolding ascii
-close-join t out out₁ out₂ out₃ a from n n₂ n₃ g b w y same₁ same₂ same₃ filter unite join rest pre out₀ final place same₀ s gather =
-    let c = close-united t rest pre out₀ final from a g b s out out₁ out₂ n n₂ place w same₀ same₁ same₂ gather filter unite in
+close-join t out out₁ out₂ out₃ a from end next mid g w y filter unite join last all rest pre out₀ final place ends s gather =
+    let c = close-united t rest all pre out₀ final from a g end next s out out₁ out₂ place w ends gather filter unite in
     go c c.unions refl
   where
     x : Node
     x = joined s.left (pattern_set s.run)
 
-    go : (c : United t rest pre out₂ x s.items b.next n₂) (us : Unions) → c.unions ≡ us
-        → Stands t rest final from pre out₃ (record { next = b.next; mid = n₃; len = n₃; run = 0 })
+    go : (c : United t rest all pre out₂ x s.items next) (us : Unions) → c.unions ≡ us
+        → Stands t rest final from all pre out₃ (record { next = next; mid = mid; run = 0 })
     go c (Gr.and_union h us) e =
-        absurd (y (word_first t _ b.next _ (c.written ∙ ap (λ (v : Unions). words (unions_tokens v c.tail)) e)))
+        absurd (y (word_first t _ next _ (c.written ∙ ap (λ (v : Unions). words (unions_tokens v c.tail)) e)))
     go c Gr.none e =
         let z = c.operand in
         let N = node_bytes (joined x z) in
-        let written : drop b.next t ≡ words c.tail = c.written ∙ ap (λ (v : Unions). words (unions_tokens v c.tail)) e in
+        let written : drop next t ≡ words c.tail = c.written ∙ ap (λ (v : Unions). words (unions_tokens v c.tail)) e in
         let means : s.items ≡ a_group z ∷ c.later =
         c.means ∙ ap (λ (v : Unions). a_group (united z v) ∷ c.later) e ∙ ap (λ (m : Node). a_group m ∷ c.later) (united-none z) in
         let room = c.room in
         let size = c.holds.size in
         let longer = unions-longer c.unions c.tail in
         let follow = follows-longer _ _ _ c.follows in
-        let held = subst (λ (l : List ℕ). Holds out₂ l n₂) (append_assoc pre (node_bytes x) (node_bytes z)) c.holds in
-        let h = join pre x z s.start s.middle held (omega arith) in
+        let held = subst (λ (l : List ℕ). Holds out₂ l all) (append_assoc pre (node_bytes x) (node_bytes z)) c.holds in
+        let h = join all pre x z s.start s.middle held (omega arith) in
         let size₃ = h.size in
         let most = joined-size x z in
         let same = joined-empty (joined x z) in
@@ -231,8 +228,8 @@ close-join t out out₁ out₂ out₃ a from n n₂ n₃ g b w y same₁ same₂
               ∙ sym (ap (λ (is : List Item). gathered s.left s.run is) means)
               ∙ s.yields;
           closed = tt;
-          holds = none-waits out₃ pre _ n₃ (subst (λ (m : Node). Holds out₃ (pre ++ node_bytes m) n₃) (sym same) h);
-          middle = size₃ ∙ length-append pre N ∙ ap (λ (m : Node). length pre + length (node_bytes m)) (sym same);
+          holds = none-waits out₃ pre _ all (subst (λ (m : Node). Holds out₃ (pre ++ node_bytes m) all) (sym same) h);
+          middle = last ∙ size₃ ∙ length-append pre N ∙ ap (λ (m : Node). length pre + length (node_bytes m)) (sym same);
           count = refl;
           few = omega arith;
           room = omega (
@@ -248,33 +245,33 @@ close-join t out out₁ out₂ out₃ a from n n₂ n₃ g b w y same₁ same₂
 -- ---- UNION follows
 
 pub close-union :
-    (t out out₁ out₂ : List ℕ) (a from n n₂ : ℕ) (g : Stage) (b : Block) → (get_or t g.next 0 ≡ 79 → ⊥) → get_or t b.next 0 ≡ 85
-    → length out₁ ≡ length out → length out₂ ≡ length out₁ → Filters t a g.len out out₁ b.len n
-    → Unites out₁ out₂ g.mid g.len n n₂ → Closes t a from out out₂ g b (record { next = b.next; mid = g.mid; len = n₂; run = 0 })
+    (t : List ℕ) (out out₁ out₂ : Filled) (a from end next : ℕ) (g : Stage) → (get_or t g.next 0 ≡ 79 → ⊥) → get_or t next 0 ≡ 85
+    → Filters t a end out out₁ → Unites out₁ out₂ g.mid end
+    → Closes t a from out out₂ g end next (record { next = next; mid = g.mid; run = 0 })
 unfolding united gathered ascii
-close-union t out out₁ out₂ a from n n₂ g b w y same₁ same₂ filter unite rest pre out₀ final place same₀ s gather =
-    let c = close-united t rest pre out₀ final from a g b s out out₁ out₂ n n₂ place w same₀ same₁ same₂ gather filter unite in
+close-union t out out₁ out₂ a from end next g w y filter unite all rest pre out₀ final place ends s gather =
+    let c = close-united t rest all pre out₀ final from a g end next s out out₁ out₂ place w ends gather filter unite in
     go c c.unions refl
   where
     x : Node
     x = joined s.left (pattern_set s.run)
 
-    go : (c : United t rest pre out₂ x s.items b.next n₂) (us : Unions) → c.unions ≡ us
-        → Stands t rest final from pre out₂ (record { next = b.next; mid = g.mid; len = n₂; run = 0 })
+    go : (c : United t rest all pre out₂ x s.items next) (us : Unions) → c.unions ≡ us
+        → Stands t rest final from all pre out₂ (record { next = next; mid = g.mid; run = 0 })
     go c Gr.none e =
-        let written : drop b.next t ≡ words c.tail = c.written ∙ ap (λ (v : Unions). words (unions_tokens v c.tail)) e in
-        let its : Items (drop b.next t) c.later rest = record { tail = c.tail; written = written; follows = c.follows } in
-        absurd (items-first _ c.later rest its (first_word t b.next ∙ y))
+        let written : drop next t ≡ words c.tail = c.written ∙ ap (λ (v : Unions). words (unions_tokens v c.tail)) e in
+        let its : Items (drop next t) c.later rest = record { tail = c.tail; written = written; follows = c.follows } in
+        absurd (items-first _ c.later rest its (first_word t next ∙ y))
     go c (Gr.and_union h us) e =
         let z = c.operand in
         let further = body_tokens h (unions_tokens us c.tail) in
-        let written : drop b.next t ≡ 85 ∷ 123 ∷ words further =
+        let written : drop next t ≡ 85 ∷ 123 ∷ words further =
         c.written ∙ ap (λ (v : Unions). words (unions_tokens v c.tail)) e in
         let means : s.items ≡ a_group (united (union z (group_node (items h))) us) ∷ c.later =
         c.means ∙ ap (λ (v : Unions). a_group (united z v) ∷ c.later) e in
         let room = c.room in
         let same = joined-empty x in
-        let held = subst (λ (l : List ℕ). Holds out₂ l n₂) (append_assoc pre (node_bytes x) (node_bytes z)) c.holds in
+        let held = subst (λ (l : List ℕ). Holds out₂ l all) (append_assoc pre (node_bytes x) (node_bytes z)) c.holds in
         record {
           start = s.start;
           left = x;
@@ -289,7 +286,7 @@ close-union t out out₁ out₂ a from n n₂ g b w y same₁ same₂ filter uni
               ∙ sym (ap (λ (is : List Item). gathered s.left s.run is) means)
               ∙ s.yields;
           closed = refl;
-          holds = subst (λ (m : Node). Holds out₂ (pre ++ (node_bytes m ++ node_bytes z)) n₂) (sym same) held;
+          holds = subst (λ (m : Node). Holds out₂ (pre ++ (node_bytes m ++ node_bytes z)) all) (sym same) held;
           middle = s.middle ∙ ap (λ (m : Node). length pre + length (node_bytes m)) (sym same);
           count = refl;
           few = omega arith;
@@ -311,15 +308,14 @@ optional t rest i is (at_optional g ts later e q f) =
     record { inner = g; tail = ts; later = later; written = e; means = q; follows = f }
 
 pub close-optional :
-    (t out out₁ out₂ out₃ : List ℕ) (a from n : ℕ) (h : Halves) (g : Stage) (b : Block) → get_or t g.next 0 ≡ 79
-    → length out₁ ≡ length out → length out₂ ≡ length out₁ → length out₃ ≡ length out₂ → Splits t a g.len out out₁ b.len h
-    → Exchanges out₁ out₂ from h.mid h.len → Puts out₂ out₃ from h.len 32 n
-    → Closes t a from out out₃ g b (record { next = b.next; mid = n; len = n; run = 0 })
+    (t : List ℕ) (out out₁ out₂ out₃ : Filled) (a from end next mid last : ℕ) (g : Stage) → get_or t g.next 0 ≡ 79
+    → Splits t a end out out₁ mid → Exchanges out₁ out₂ from mid → Puts out₂ out₃ from 32 → last ≡ out₃.end
+    → Closes t a from out out₃ g end next (record { next = next; mid = last; run = 0 })
 unfolding gathered node_bytes
-close-optional t out out₁ out₂ out₃ a from n h g b w same₁ same₂ same₃ split exchange put rest pre out₀ final place same₀ s gather =
-    let idle = stage-items t rest final from pre out₀ g s (λ c. omega arith) in
+close-optional t out out₁ out₂ out₃ a from end next mid last g w split exchange put lasts all rest pre out₀ final place ends s gather =
+    let idle = stage-items t rest final from all pre out₀ g s (λ c. omega arith) in
     let o = optional t rest g.next s.items (view-at t g.next 79 s.items rest w (items-walks idle.0)) in
-    let held = stage-holds t rest final from pre out₀ g s idle.1 in
+    let held = stage-holds t rest final from all pre out₀ g s idle.1 in
     let is = items o.inner in
     let x = joined s.left (pattern_set s.run) in
     let J = node_bytes x in
@@ -339,17 +335,17 @@ close-optional t out out₁ out₂ out₃ a from n h g b w same₁ same₂ same�
     let on : drop a t ≡ words (body_tokens o.inner o.tail) = ap (λ (m : ℕ). drop m t) behind ∙ words-on t _ g.next 2 o.written in
     let words₃ = ap length on in
     let words₄ = length-map o.tail token_word in
-    let r₁ = gather o.inner o.tail (pre ++ J) on held (omega arith) in
-    let r₂ = split o.inner o.tail (pre ++ J) on size r₁.1 (omega arith) in
-    let mid = r₂.0 in
+    let r₁ = gather all o.inner o.tail (pre ++ J) on held (omega arith) in
+    let r₂ = split all o.inner o.tail (pre ++ J) on (ends ∙ size) r₁.1 (omega arith) in
+    let middle = r₂.0 in
     let flat : (pre ++ J) ++ (U ++ C) ≡ pre ++ ((J ++ U) ++ C) =
     append_assoc pre J (U ++ C) ∙ ap (λ (l : List ℕ). pre ++ l) (sym (append_assoc J U C)) in
     let wide₂ = length-append J U in
-    let r₃ = exchange pre (J ++ U) C (sym start) (omega arith) (subst (λ (l : List ℕ). Holds out₁ l h.len) flat r₂.1) in
+    let r₃ = exchange all pre (J ++ U) C (sym start) (omega arith) (subst (λ (l : List ℕ). Holds out₁ l all) flat r₂.1) in
     let size₃ = r₃.size in
     let wide₃ = length-append pre (C ++ (J ++ U)) in
     let wide₄ = length-append C (J ++ U) in
-    let r₄ = put pre (C ++ (J ++ U)) (sym start) r₃ (omega arith) in
+    let r₄ = put all pre (C ++ (J ++ U)) (sym start) r₃ (omega arith) in
     let size₄ = r₄.size in
     let wide₅ = length-append pre (32 ∷ (C ++ (J ++ U))) in
     record {
@@ -361,8 +357,8 @@ close-optional t out out₁ out₂ out₃ a from n h g b w same₁ same₂ same�
       coming = record { tail = o.tail; written = r₁.0; follows = o.follows };
       yields = sym (ap (λ (js : List Item). gathered s.left s.run js) o.means) ∙ s.yields;
       closed = tt;
-      holds = none-waits out₃ pre (32 ∷ (C ++ (J ++ U))) n r₄;
-      middle = size₄ ∙ wide₅;
+      holds = none-waits out₃ pre (32 ∷ (C ++ (J ++ U))) all r₄;
+      middle = lasts ∙ size₄ ∙ wide₅;
       count = refl;
       few = omega arith;
       room = omega (arith, ap length r₁.0);

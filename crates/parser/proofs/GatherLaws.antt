@@ -14,10 +14,10 @@ use Rattle.tsparql.specs.Writing.{node_bytes}
 use Rattle.grammar.specs.Tokens.{Token}
 use Rattle.grammar.specs.Grammar.{Body}
 use Rattle.grammar.specs.Meaning.{Item, items, joined, gathered}
+use Rattle.blocks.specs.Buffers.{Filled}
 use Rattle.blocks.specs.Blocks.{Holds, Appends}
 use Rattle.words.specs.Words.{words}
 use Rattle.words.proofs.WordLaws.{words-on}
-use Rattle.clauses.specs.declared.Block.{Block}
 use Rattle.groups.specs.Passes.{BodyAt}
 use Rattle.groups.proofs.Fronts.{k_end, View, at_end, items-walks, body-items, view-at}
 use Rattle.parser.specs.Stages.{body_place, Stands, Gathers, Closes}
@@ -32,11 +32,12 @@ gathered_node b = gathered (pattern_set []) [] (items b)
 
 -- the empty set is written
 stage-first :
-    (t pre out : List ℕ) (b : Body true) (rest : List Token) (at from n : ℕ) → from ≡ length pre → BodyAt t at b rest
-    → Holds out (pre ++ (0 ∷ [])) n → n + 4 * length (drop at t) ≤ length out + 4 * length rest + 1
-    → Stands t rest (gathered_node b) from pre out (record { next = at; mid = n; len = n; run = 0 })
+    (t : List ℕ) (all : ℕ) (pre : List ℕ) (out : Filled) (b : Body true) (rest : List Token) (at from n : ℕ) → from ≡ length pre
+    → n ≡ out.end → BodyAt t at b rest → Holds out (pre ++ (0 ∷ [])) all
+    → out.end + 4 * length (drop at t) ≤ all + 4 * length rest + 1
+    → Stands t rest (gathered_node b) from all pre out (record { next = at; mid = n; run = 0 })
 unfolding node_bytes
-stage-first t pre out b rest at from n f w h room =
+stage-first t all pre out b rest at from n f end w h room =
     record {
       start = f;
       left = pattern_set [];
@@ -47,7 +48,7 @@ stage-first t pre out b rest at from n f w h room =
       yields = refl;
       closed = tt;
       holds = h;
-      middle = h.size ∙ length-append pre (0 ∷ []);
+      middle = end ∙ h.size ∙ length-append pre (0 ∷ []);
       count = refl;
       few = omega arith;
       room = room;
@@ -55,71 +56,71 @@ stage-first t pre out b rest at from n f w h room =
 
 -- at the closing brace
 stage-end :
-    (t : List ℕ) (rest : List Token) (final : Node) (from : ℕ) (pre out : List ℕ) (g : Stage) → get_or t g.next 0 ≡ 125
-    → Stands t rest final from pre out g → (drop (g.next + 1) t ≡ words rest) × Holds out (pre ++ node_bytes final) g.len
+    (t : List ℕ) (rest : List Token) (final : Node) (from all : ℕ) (pre : List ℕ) (out : Filled) (g : Stage) → get_or t g.next 0 ≡ 125
+    → Stands t rest final from all pre out g → (drop (g.next + 1) t ≡ words rest) × Holds out (pre ++ node_bytes final) all
 unfolding gathered
-stage-end t rest final from pre out g w s =
-    let idle = stage-items t rest final from pre out g s (λ c. omega arith) in
-    go (stage-holds t rest final from pre out g s idle.1) (view-at t g.next 125 s.items rest w (items-walks idle.0))
+stage-end t rest final from all pre out g w s =
+    let idle = stage-items t rest final from all pre out g s (λ c. omega arith) in
+    go (stage-holds t rest final from all pre out g s idle.1) (view-at t g.next 125 s.items rest w (items-walks idle.0))
   where
-    go : Holds out (pre ++ node_bytes (joined s.left (pattern_set s.run))) g.len → View (drop g.next t) s.items rest k_end
-        → (drop (g.next + 1) t ≡ words rest) × Holds out (pre ++ node_bytes final) g.len
+    go : Holds out (pre ++ node_bytes (joined s.left (pattern_set s.run))) all → View (drop g.next t) s.items rest k_end
+        → (drop (g.next + 1) t ≡ words rest) × Holds out (pre ++ node_bytes final) all
     go h (at_end e q) =
         let same : joined s.left (pattern_set s.run) ≡ final =
         sym (ap (λ (is : List Item). gathered s.left s.run is) q) ∙ s.yields in
-        (words-on t _ g.next 1 e, subst (λ (x : Node). Holds out (pre ++ node_bytes x) g.len) same h)
+        (words-on t _ g.next 1 e, subst (λ (x : Node). Holds out (pre ++ node_bytes x) all) same h)
 
 -- ---- the loop
 
--- the stage g of the gathering from a place on, where the empty set was written up to n
-pub record Gathering (t : List ℕ) (at from n : ℕ) (out out' : List ℕ) (g : Stage) : Type 0 where
+-- the stage g of the gathering from a place on, where the empty set was written behind `from` bytes
+pub record Gathering (t : List ℕ) (at from : ℕ) (out out' : Filled) (g : Stage) : Type 0 where
   pub forward : at ≤ g.next
-  pub same : length out' ≡ length out
   pub stands :
-      (b : Body true) (rest : List Token) (pre : List ℕ) → from ≡ length pre → BodyAt t at b rest → Holds out (pre ++ (0 ∷ [])) n
-      → n + 4 * length (drop at t) ≤ length out + 4 * length rest + 1 → Stands t rest (gathered_node b) from pre out' g
+      (all : ℕ) (b : Body true) (rest : List Token) (pre : List ℕ) → from ≡ length pre → BodyAt t at b rest
+      → Holds out (pre ++ (0 ∷ [])) all → out.end + 4 * length (drop at t) ≤ all + 4 * length rest + 1
+      → Stands t rest (gathered_node b) from all pre out' g
 
-pub gathering-first : (t out : List ℕ) (at from n : ℕ) → Gathering t at from n out out (record { next = at; mid = n; len = n; run = 0 })
-gathering-first t out at from n =
-    record { forward = le_refl at; same = refl; stands = λ b rest pre f w h r. stage-first t pre out b rest at from n f w h r }
+pub gathering-first :
+    (t : List ℕ) (out : Filled) (at from n : ℕ) → n ≡ out.end → Gathering t at from out out (record { next = at; mid = n; run = 0 })
+gathering-first t out at from n end =
+    record { forward = le_refl at; stands = λ all b rest pre f w h r. stage-first t all pre out b rest at from n f end w h r }
 
-module _ (t : List ℕ) (at from n : ℕ) where
+module _ (t : List ℕ) (at from : ℕ) where
   -- the stage behind the empty set, which was written behind what the buffer held
   begun :
-      (out out₁ out' : List ℕ) (g : Stage) → length out₁ ≡ length out → Appends out out₁ from (0 ∷ []) n → Gathering t at from n out₁ out' g
-      → (b : Body true) (rest : List Token) (pre : List ℕ) → BodyAt t at b rest → Holds out pre from
-      → from + 4 * length (drop at t) ≤ length out + 4 * length rest → Stands t rest (gathered_node b) from pre out' g
-  begun out out₁ out' g s append w b rest pre p h room =
+      (out out₁ out' : Filled) (g : Stage) → from ≡ out.end → Appends out out₁ (0 ∷ []) → Gathering t at from out₁ out' g
+      → (all : ℕ) (b : Body true) (rest : List Token) (pre : List ℕ) → BodyAt t at b rest → Holds out pre all
+      → out.end + 4 * length (drop at t) ≤ all + 4 * length rest → Stands t rest (gathered_node b) from all pre out' g
+  begun out out₁ out' g s append w all b rest pre p h room =
       let size = h.size in
       let long = items-longer _ _ _ (body-items t at b rest p) in
-      let held = append pre h (omega arith) in
+      let held = append all pre h (omega arith) in
       let size₁ = held.size in
-      w.stands b rest pre size p held (omega (arith, length-append pre (0 ∷ [])))
+      w.stands all b rest pre (s ∙ size) p held (omega (arith, length-append pre (0 ∷ [])))
 
   -- the words do not end before the closing brace
   pub gathering-inside :
-      (out out₁ out' : List ℕ) (g : Stage) (r : Block) → length t ≤ g.next → length out₁ ≡ length out → Appends out out₁ from (0 ∷ []) n
-      → Gathering t at from n out₁ out' g → Gathers t at from out out' r
-  gathering-inside out out₁ out' g r l s append w b rest pre p h room =
-      absurd (omega (arith, stage-inside _ _ _ _ _ _ g (begun out out₁ out' g s append w b rest pre p h room)))
+      (out out₁ out' : Filled) (g : Stage) (next : ℕ) → length t ≤ g.next → from ≡ out.end → Appends out out₁ (0 ∷ [])
+      → Gathering t at from out₁ out' g → Gathers t at out out' next
+  gathering-inside out out₁ out' g next l s append w all b rest pre p h room =
+      absurd (omega (arith, stage-inside _ _ _ _ _ _ _ g (begun out out₁ out' g s append w all b rest pre p h room)))
 
   pub gathering-end :
-      (out out₁ out' : List ℕ) (g : Stage) → get_or t g.next 0 ≡ 125 → length out₁ ≡ length out → Appends out out₁ from (0 ∷ []) n
-      → Gathering t at from n out₁ out' g → Gathers t at from out out' (record { next = g.next + 1; len = g.len })
-  gathering-end out out₁ out' g c s append w b rest pre p h room =
-      stage-end _ _ _ _ _ _ g c (begun out out₁ out' g s append w b rest pre p h room)
+      (out out₁ out' : Filled) (g : Stage) → get_or t g.next 0 ≡ 125 → from ≡ out.end → Appends out out₁ (0 ∷ [])
+      → Gathering t at from out₁ out' g → Gathers t at out out' (g.next + 1)
+  gathering-end out out₁ out' g c s append w all b rest pre p h room =
+      stage-end _ _ _ _ _ _ _ g c (begun out out₁ out' g s append w all b rest pre p h room)
 
   pub gathering-closes :
-      (out out₁ out₂ out₃ : List ℕ) (a : ℕ) (g r : Stage) (b : Block) → Some a ≡ body_place (get_or t g.next 0) g.next
-      → Gathering t at from n out out₁ g → (a ≤ b.next) × Gathers t a g.len out₁ out₂ b → length out₂ ≡ length out₁
-      → (b.next ≤ r.next) × Closes t a from out₂ out₃ g b r → length out₃ ≡ length out₂ → Gathering t at from n out out₃ r
-  gathering-closes out out₁ out₂ out₃ a g r b place s gather same close same₂ =
+      (out out₁ out₂ out₃ : Filled) (a end next : ℕ) (g r : Stage) → Some a ≡ body_place (get_or t g.next 0) g.next → end ≡ out₁.end
+      → Gathering t at from out out₁ g → (a ≤ next) × Gathers t a out₁ out₂ next
+      → (next ≤ r.next) × Closes t a from out₂ out₃ g end next r → Gathering t at from out out₃ r
+  gathering-closes out out₁ out₂ out₃ a end next g r place ends s gather close =
       let p = s.forward in
       let q = gather.0 in
       let u = close.0 in
       let less = body-forward (get_or t g.next 0) g.next a place in
       record {
         forward = omega arith;
-        same = same₂ ∙ same ∙ s.same;
-        stands = λ c rest pre f w h l. close.1 rest pre out₁ _ place same (s.stands c rest pre f w h l) gather.1;
+        stands = λ all c rest pre f w h l. close.1 all rest pre out₁ _ place ends (s.stands all c rest pre f w h l) gather.1;
       }

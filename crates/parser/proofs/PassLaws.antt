@@ -16,6 +16,7 @@ use Rattle.groups.specs.Items.{Follows, Items, next_place}
 use Rattle.groups.proofs.Fronts.{Kind, View, items-walks, first_word, view-at, next_item}
 use Rattle.groups.proofs.StepLaws.{next-forward, next_place_lem}
 use Rattle.groups.proofs.Fronts.{at_end, at_dot, at_union, at_triple, at_group, at_optional, at_filter, at_projection, at_bound}
+use Rattle.blocks.specs.Buffers.{Filled}
 use Rattle.parser.specs.Stages.{body_place, Passes}
 use Rattle.parser.specs.declared.Stage.{Stage}
 use Rattle.parser.proofs.StageLaws.{none-waits, stage-inside, stage-items, stage-holds}
@@ -76,16 +77,16 @@ plain w i h n m =
     other k e = cc
 
 pub pass-other :
-    (t out : List ℕ) (from j : ℕ) (g : Stage) → get_or t g.next 0 < 256 → j ≡ next_place t g.next
-    → Passes t from out out g (record { next = j; mid = g.mid; len = g.len; run = g.run })
-pass-other t out from j g small e rest pre final n m s =
+    (t : List ℕ) (out : Filled) (from j : ℕ) (g : Stage) → get_or t g.next 0 < 256 → j ≡ next_place t g.next
+    → Passes t from out out g (record { next = j; mid = g.mid; run = g.run })
+pass-other t out from j g small e all rest pre final n m s =
     let i = g.next in
     let p = plain (get_or t i 0) i small n m in
-    let idle = stage-items t rest final from pre out g s p.no_union in
+    let idle = stage-items t rest final from all pre out g s p.no_union in
     let v = view-at t i (get_or t i 0) s.items rest refl (items-walks idle.0) in
     let o = over (drop i t) s.items rest s.left s.run (subst Plain (sym (first_word t i)) p) v in
-    let held = stage-holds t rest final from pre out g s idle.1 in
-    let inside = stage-inside t rest final from pre out g s in
+    let held = stage-holds t rest final from all pre out g s idle.1 in
+    let inside = stage-inside t rest final from all pre out g s in
     let room = s.room in
     let forward = next-forward t i j e in
     let J = node_bytes (joined s.left (pattern_set s.run)) in
@@ -98,7 +99,7 @@ pass-other t out from j g small e rest pre final n m s =
       coming = subst (λ (ws : List ℕ). Items ws o.later rest) (sym (next_place_lem t i j e)) o.items;
       yields = o.yields ∙ s.yields;
       closed = tt;
-      holds = none-waits out pre J g.len held;
+      holds = none-waits out pre J all held;
       middle = s.middle;
       count = s.count;
       few = s.few;

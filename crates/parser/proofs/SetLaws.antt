@@ -5,8 +5,8 @@ use mathlib.Core.List.{List, [], ◌∷◌, ◌++◌, append_assoc, append-nil}
 use mathlib.Core.Option.{none, some}
 use Prim.Native.Nat.{ℕ, ◌+◌, ◌*◌, ◌-◌, ◌%◌, ◌≤◌, ◌<◌}
 use native.Mathlib.Omega.{arith}
-use lib.ListN.{length, take, drop, get_or, set, length-append}
-use lib.Seq.{set_at, take_at}
+use lib.ListN.{length, drop, get_or, set, length-append, length-set}
+use lib.Seq.{set_at}
 use borrow.Author.Tests.{lt-ltb, le-ltb}
 use Rattle.tsparql.specs.Lists.{concat_map}
 use Rattle.tsparql.proofs.ListLaws.{concat_map-append}
@@ -16,9 +16,9 @@ use Rattle.tsparql.specs.Writing.{node_bytes, condition_bytes, pattern_bytes, th
 use Rattle.grammar.proofs.Sizes.{patterns-size}
 use Rattle.grammar.specs.Grammar.{Slot, term, variable}
 use Rattle.grammar.specs.Meaning.{is_empty_set, joined, slot_of, pattern_of}
-use Rattle.blocks.specs.Buffers.{buffer, appended}
+use Rattle.blocks.specs.Buffers.{Filled, buffer, cut, appended}
 use Rattle.blocks.specs.Blocks.{Holds, Puts, Exchanges, Appends}
-use Rattle.blocks.proofs.Holding.{holds-split, split-holds, appends, appended-on}
+use Rattle.blocks.proofs.Holding.{holds-split, split-holds, holds-cut, appends, appended-on}
 use Rattle.words.specs.Words.{slot_word}
 use Rattle.words.proofs.WordLaws.{word_at, word_first}
 use Rattle.parser.specs.Sets.{Unites, Joins, before, Begins, slot_bytes, Adds}
@@ -94,73 +94,74 @@ set-size ps = omega (arith, patterns-size ps)
 
 -- ---- united
 
-pub unite-some : (out out' : List ℕ) (mid end n r : ℕ) → mid < end → Puts out out' mid n 48 r → Unites out out' mid end n r
+pub unite-some : (out out' : Filled) (mid end : ℕ) → mid < end → Puts out out' mid 48 → Unites out out' mid end
 unfolding node_bytes
-unite-some out out' mid end n r h a pre none x e f g room = absurd (omega arith)
-unite-some out out' mid end n r h a pre (some u) x e f g room = a pre (node_bytes u ++ node_bytes x) (sym e) g room
+unite-some out out' mid end h a all pre none x e f g room = absurd (omega arith)
+unite-some out out' mid end h a all pre (some u) x e f g room = a all pre (node_bytes u ++ node_bytes x) (sym e) g room
 
-pub unite-none : (out : List ℕ) (mid end n : ℕ) → end ≤ mid → Unites out out mid end n n
-unite-none out mid end n h pre none x e f g room = g
-unite-none out mid end n h pre (some u) x e f g room = absurd (omega (arith, node-large u))
+pub unite-none : (out : Filled) (mid end : ℕ) → end ≤ mid → Unites out out mid end
+unite-none out mid end h all pre none x e f g room = g
+unite-none out mid end h all pre (some u) x e f g room = absurd (omega (arith, node-large u))
 
 -- ---- joined
 
 -- lengths of the blocks
-pub joins-none : (out : List ℕ) (from mid n r : ℕ) → n ≤ mid → Joins out out from mid n r
-joins-none out from mid n r h pre x y e f g room =
+pub joins-none : (out : Filled) (from mid : ℕ) → out.end ≤ mid → Joins out out from mid
+joins-none out from mid h all pre x y e f g room =
     let s = g.size in
     absurd (omega (arith, length-append pre (node_bytes x ++ node_bytes y), length-append (node_bytes x) (node_bytes y), node-large y))
 
-pub joins-none-2 : (out : List ℕ) (from mid n r : ℕ) → mid ≤ from → Joins out out from mid n r
-joins-none-2 out from mid n r h pre x y e f g room = absurd (omega (arith, node-large x))
+pub joins-none-2 : (out : Filled) (from mid : ℕ) → mid ≤ from → Joins out out from mid
+joins-none-2 out from mid h all pre x y e f g room = absurd (omega (arith, node-large x))
 
-held-front : (out xs ys : List ℕ) (n m : ℕ) → m ≡ length xs → Holds out (xs ++ ys) n → Holds out xs m
-held-front out xs ys n m e h =
-    split-holds out xs (ys ++ drop n out) m (holds-split out (xs ++ ys) n h ∙ append_assoc xs ys (drop n out)) e
-
-pub joins-right-empty : (out : List ℕ) (from mid n : ℕ) → mid < n → n - mid ≡ 1 → Joins out out from mid n mid
-joins-right-empty out from mid n l q pre x y e f g room = go (is_empty_set x) refl (is_empty_set y) refl
+pub joins-right-empty : (out out' : Filled) (from mid : ℕ) → out.end - mid ≡ 1 → out' ≡ cut out mid → Joins out out' from mid
+joins-right-empty out out' from mid q w all pre x y e f g room = go (is_empty_set x) refl (is_empty_set y) refl
   where
-    go : (b : Bool) → is_empty_set x ≡ b → (c : Bool) → is_empty_set y ≡ c → Holds out (pre ++ node_bytes (joined x y)) mid
+    go : (b : Bool) → is_empty_set x ≡ b → (c : Bool) → is_empty_set y ≡ c → Holds out' (pre ++ node_bytes (joined x y)) all
     go b ex false ey =
         let s = g.size in
         absurd (omega (arith, length-append pre (node_bytes x ++ node_bytes y), length-append (node_bytes x) (node_bytes y), full-large y ey))
     go true ex true ey =
-        let h = held-front out (pre ++ node_bytes x) (node_bytes y) n mid (f ∙ sym (length-append pre (node_bytes x)))
-        (subst (λ (l : List ℕ). Holds out l n) (sym (append_assoc pre (node_bytes x) (node_bytes y))) g) in
+        let h = subst (λ (b : Filled). Holds b (pre ++ node_bytes x) all) (sym w)
+        (holds-cut out (pre ++ node_bytes x) (node_bytes y) all mid
+        (subst (λ (l : List ℕ). Holds out l all) (sym (append_assoc pre (node_bytes x) (node_bytes y))) g)
+        (f ∙ sym (length-append pre (node_bytes x)))) in
         let so : node_bytes x ≡ node_bytes (joined x y) = empty-bytes x ex ∙ sym (empty-bytes y ey) ∙ rw ex in
-        subst (λ (l : List ℕ). Holds out (pre ++ l) mid) so h
+        subst (λ (l : List ℕ). Holds out' (pre ++ l) all) so h
     go false ex true ey =
-        let h = held-front out (pre ++ node_bytes x) (node_bytes y) n mid (f ∙ sym (length-append pre (node_bytes x)))
-        (subst (λ (l : List ℕ). Holds out l n) (sym (append_assoc pre (node_bytes x) (node_bytes y))) g) in
+        let h = subst (λ (b : Filled). Holds b (pre ++ node_bytes x) all) (sym w)
+        (holds-cut out (pre ++ node_bytes x) (node_bytes y) all mid
+        (subst (λ (l : List ℕ). Holds out l all) (sym (append_assoc pre (node_bytes x) (node_bytes y))) g)
+        (f ∙ sym (length-append pre (node_bytes x)))) in
         let so : node_bytes x ≡ node_bytes (joined x y) = rw (ex, ey) in
-        subst (λ (l : List ℕ). Holds out (pre ++ l) mid) so h
+        subst (λ (l : List ℕ). Holds out' (pre ++ l) all) so h
 
 pub joins-left-empty :
-    (out out' : List ℕ) (from mid n : ℕ) → from < mid → mid - from ≡ 1 → mid < n → Exchanges out out' from mid n
-    → Joins out out' from mid n (n - 1)
-joins-left-empty out out' from mid n l q z a pre x y e f g room = go (is_empty_set x) refl
+    (out out₁ out' : Filled) (from mid n : ℕ) → n ≡ out.end → mid - from ≡ 1 → Exchanges out out₁ from mid → out' ≡ cut out₁ (n - 1)
+    → Joins out out' from mid
+joins-left-empty out out₁ out' from mid n end q a w all pre x y e f g room = go (is_empty_set x) refl
   where
-    go : (b : Bool) → is_empty_set x ≡ b → Holds out' (pre ++ node_bytes (joined x y)) (n - 1)
+    go : (b : Bool) → is_empty_set x ≡ b → Holds out' (pre ++ node_bytes (joined x y)) all
     go false ex = absurd (omega (arith, full-large x ex))
     go true ex =
         let s = g.size in
-        let h = a pre (node_bytes x) (node_bytes y) (sym e) (sym f) g in
+        let h = a all pre (node_bytes x) (node_bytes y) (sym e) (sym f) g in
         let both = length-append (node_bytes x) (node_bytes y) in
         let k : n - 1 ≡ length (pre ++ node_bytes y) =
         omega (arith, length-append pre (node_bytes x ++ node_bytes y), both, length-append pre (node_bytes y)) in
-        let h₂ = held-front out' (pre ++ node_bytes y) (node_bytes x) n (n - 1) k
-        (subst (λ (l : List ℕ). Holds out' l n) (sym (append_assoc pre (node_bytes y) (node_bytes x))) h) in
+        let h₂ = subst (λ (b : Filled). Holds b (pre ++ node_bytes y) all) (sym w)
+        (holds-cut out₁ (pre ++ node_bytes y) (node_bytes x) all (n - 1)
+        (subst (λ (l : List ℕ). Holds out₁ l all) (sym (append_assoc pre (node_bytes y) (node_bytes x))) h) k) in
         let so : node_bytes y ≡ node_bytes (joined x y) = rw ex in
-        subst (λ (l : List ℕ). Holds out' (pre ++ l) (n - 1)) so h₂
+        subst (λ (l : List ℕ). Holds out' (pre ++ l) all) so h₂
 
 pub joins-both :
-    (out out' : List ℕ) (from mid n r : ℕ) → from < mid → mid < n → (mid - from ≡ 1 → ⊥) → (n - mid ≡ 1 → ⊥) → Puts out out' from n 16 r
-    → Joins out out' from mid n r
+    (out out' : Filled) (from mid : ℕ) → (mid - from ≡ 1 → ⊥) → (out.end - mid ≡ 1 → ⊥) → Puts out out' from 16
+    → Joins out out' from mid
 unfolding node_bytes
-joins-both out out' from mid n r l z p q a pre x y e f g room = go (is_empty_set x) refl (is_empty_set y) refl
+joins-both out out' from mid p q a all pre x y e f g room = go (is_empty_set x) refl (is_empty_set y) refl
   where
-    go : (b : Bool) → is_empty_set x ≡ b → (c : Bool) → is_empty_set y ≡ c → Holds out' (pre ++ node_bytes (joined x y)) r
+    go : (b : Bool) → is_empty_set x ≡ b → (c : Bool) → is_empty_set y ≡ c → Holds out' (pre ++ node_bytes (joined x y)) all
     go true ex c ey = absurd (p (omega (arith, ap length (empty-bytes x ex))))
     go false ex true ey =
         let s = g.size in
@@ -168,52 +169,53 @@ joins-both out out' from mid n r l z p q a pre x y e f g room = go (is_empty_set
         absurd (q (omega (arith, ap length (empty-bytes y ey), length-append pre (node_bytes x ++ node_bytes y), both)))
     go false ex false ey =
         let so : node_bytes (join x y) ≡ node_bytes (joined x y) = rw (ex, ey) in
-        subst (λ (l : List ℕ). Holds out' (pre ++ l) r) so (a pre (node_bytes x ++ node_bytes y) (sym e) g room)
+        subst (λ (l : List ℕ). Holds out' (pre ++ l) all) so (a all pre (node_bytes x ++ node_bytes y) (sym e) g room)
 
 -- ---- an empty set
 
-pub begins-none : (out : List ℕ) (from n r : ℕ) → n ≤ from → Begins out out from n r
-begins-none out from n r h pre x e g room = let s = g.size in absurd (omega (arith, length-append pre (node_bytes x), node-large x))
+pub begins-none : (out : Filled) (from : ℕ) → out.end ≤ from → Begins out out from
+begins-none out from h all pre x e g room = let s = g.size in absurd (omega (arith, length-append pre (node_bytes x), node-large x))
 
-pub begins-empty : (out : List ℕ) (from n : ℕ) → from < n → n - from ≡ 1 → Begins out out from n n
-begins-empty out from n l q pre x e g room = go (is_empty_set x) refl
+pub begins-empty : (out : Filled) (from : ℕ) → out.end - from ≡ 1 → Begins out out from
+begins-empty out from q all pre x e g room = go (is_empty_set x) refl
   where
-    go : (b : Bool) → is_empty_set x ≡ b → Holds out (pre ++ (before x ++ (0 ∷ []))) n
+    go : (b : Bool) → is_empty_set x ≡ b → Holds out (pre ++ (before x ++ (0 ∷ []))) all
     go false ex = let s = g.size in absurd (omega (arith, length-append pre (node_bytes x), full-large x ex))
     go true ex =
         let so : node_bytes x ≡ before x ++ (0 ∷ []) = empty-bytes x ex ∙ rw ex in
-        subst (λ (l : List ℕ). Holds out (pre ++ l) n) so g
+        subst (λ (l : List ℕ). Holds out (pre ++ l) all) so g
 
 pub begins-full :
-    (out out₁ out₂ : List ℕ) (from n m r : ℕ) → from < n → (n - from ≡ 1 → ⊥) → length out₁ ≡ length out → Appends out out₁ n (0 ∷ []) m
-    → Puts out₁ out₂ from m 16 r → Begins out out₂ from n r
-begins-full out out₁ out₂ from n m r l q same a b pre x e g room = go (is_empty_set x) refl
+    (out out₁ out₂ : Filled) (from : ℕ) → (out.end - from ≡ 1 → ⊥) → Appends out out₁ (0 ∷ []) → Puts out₁ out₂ from 16
+    → Begins out out₂ from
+begins-full out out₁ out₂ from q a b all pre x e g room = go (is_empty_set x) refl
   where
-    go : (c : Bool) → is_empty_set x ≡ c → Holds out₂ (pre ++ (before x ++ (0 ∷ []))) r
+    go : (c : Bool) → is_empty_set x ≡ c → Holds out₂ (pre ++ (before x ++ (0 ∷ []))) all
     go true ex = let s = g.size in absurd (q (omega (arith, length-append pre (node_bytes x), ap length (empty-bytes x ex))))
     go false ex =
         let s = g.size in
-        let h = a (pre ++ node_bytes x) g (omega arith) in
+        let h = a all (pre ++ node_bytes x) g (omega arith) in
         let k = h.size in
-        let h₁ = subst (λ (y : List ℕ). Holds out₁ y m) (append_assoc pre (node_bytes x) (0 ∷ [])) h in
-        let h₂ = b pre (node_bytes x ++ (0 ∷ [])) (sym e) h₁
+        let h₁ = subst (λ (y : List ℕ). Holds out₁ y all) (append_assoc pre (node_bytes x) (0 ∷ [])) h in
+        let h₂ = b all pre (node_bytes x ++ (0 ∷ [])) (sym e) h₁
         (omega (arith, length-append (pre ++ node_bytes x) (0 ∷ []))) in
         let so : 16 ∷ (node_bytes x ++ (0 ∷ [])) ≡ before x ++ (0 ∷ []) = rw ex in
-        subst (λ (y : List ℕ). Holds out₂ (pre ++ y) r) so h₂
+        subst (λ (y : List ℕ). Holds out₂ (pre ++ y) all) so h₂
 
 -- ---- a byte
 
 -- the byte at h
 holds-set :
-    (out pre rest : List ℕ) (h v a n : ℕ) → length pre ≡ h → Holds out (pre ++ (a ∷ rest)) n → Holds (set out h v) (pre ++ (v ∷ rest)) n
-holds-set out pre rest h v a n e g =
+    (out : Filled) (pre rest : List ℕ) (h v a all : ℕ) → length pre ≡ h → Holds out (pre ++ (a ∷ rest)) all
+    → Holds (buffer (set out.bytes h v) out.end) (pre ++ (v ∷ rest)) all
+holds-set out pre rest h v a all e g =
     let s = g.size in
-    let D = drop n out in
-    let so : set out h v ≡ (pre ++ (v ∷ rest)) ++ D =
-    ap (λ (x : List ℕ). set x h v) (holds-split out (pre ++ (a ∷ rest)) n g ∙ append_assoc pre (a ∷ rest) D)
+    let D = drop out.end out.bytes in
+    let so : set out.bytes h v ≡ (pre ++ (v ∷ rest)) ++ D =
+    ap (λ (x : List ℕ). set x h v) (holds-split out (pre ++ (a ∷ rest)) all g ∙ append_assoc pre (a ∷ rest) D)
     ∙ set_at pre a (rest ++ D) v h e ∙ sym (append_assoc pre (v ∷ rest) D) in
-    let size : n ≡ length (pre ++ (v ∷ rest)) = omega (arith, length-append pre (a ∷ rest), length-append pre (v ∷ rest)) in
-    record { size = size; front = ap (λ (x : List ℕ). take n x) so ∙ take_at (pre ++ (v ∷ rest)) D n (sym size) }
+    split-holds (set out.bytes h v) (pre ++ (v ∷ rest)) D out.end all so
+    (omega (arith, length-append pre (a ∷ rest), length-append pre (v ∷ rest))) (length-set out.bytes h v ∙ g.whole)
 
 -- ---- slots
 
@@ -244,37 +246,37 @@ three-parts : {a b c a' b' c' : List ℕ} → a ≡ a' → b ≡ b' → c ≡ c'
 three-parts {a} {b} {c} {a'} {b'} {c'} p q r = append_assoc a b c ∙ rw (p, q, r)
 
 pub adds :
-    (t : List ℕ) (i : ℕ) (out out₀ out₁ out₂ out₃ : List ℕ) (n run a b r : ℕ) → length out₀ ≡ length out → 9 * run < n
-    → out₀ ≡ set out (n - 1 - 9 * run) (run + 1) → buffer out₁ a ≡ appended (buffer out₀ n) (slot_bytes (get_or t i 0))
-    → buffer out₂ b ≡ appended (buffer out₁ a) (slot_bytes (get_or t (i + 1) 0))
-    → buffer out₃ r ≡ appended (buffer out₂ b) (slot_bytes (get_or t (i + 2) 0))
-    → Adds t i out out₃ n run r
+    (t : List ℕ) (i : ℕ) (out out₀ out₁ out₂ out₃ : Filled) (n run : ℕ) → n ≡ out.end → 9 * run < n
+    → out₀ ≡ buffer (set out.bytes (n - 1 - 9 * run) (run + 1)) out.end → out₁ ≡ appended out₀ (slot_bytes (get_or t i 0))
+    → out₂ ≡ appended out₁ (slot_bytes (get_or t (i + 1) 0)) → out₃ ≡ appended out₂ (slot_bytes (get_or t (i + 2) 0))
+    → Adds t i out out₃ run
 unfolding node_bytes pattern_bytes
-adds t i out out₀ out₁ out₂ out₃ n run a b r s₀ z m p q w pre ps x y v rest e few f g room =
+adds t i out out₀ out₁ out₂ out₃ n run end z m p q w all pre ps x y v rest e few f g room =
     let size = g.size in
     let k = patterns-size ps in
     let P = concat_map pattern_bytes ps in
     let B = pattern_bytes (pattern_of x y v) in
     let place : length pre ≡ n - 1 - 9 * run = omega (arith, length-append pre ((0 + length ps) ∷ P)) in
-    let count = holds-set out pre P (n - 1 - 9 * run) (run + 1) (0 + length ps) n place g in
-    let h₀ = subst (λ (l : List ℕ). Holds l (pre ++ ((run + 1) ∷ P)) n) (sym m) count in
+    let count = holds-set out pre P (n - 1 - 9 * run) (run + 1) (0 + length ps) all place g in
+    let h₀ = subst (λ (b : Filled). Holds b (pre ++ ((run + 1) ∷ P)) all) (sym m) count in
+    let same : out₀.end ≡ out.end = ap (λ (b : Filled). b.end) m in
     let X : slot_bytes (get_or t i 0) ≡ three_bytes (slot_number (slot_of x)) = ap slot_bytes (word_first t _ i _ f) ∙ slot-bytes x in
     let Y : slot_bytes (get_or t (i + 1) 0) ≡ three_bytes (slot_number (slot_of y)) = ap slot_bytes (word_at t _ i 1 f) ∙ slot-bytes y in
     let Z : slot_bytes (get_or t (i + 2) 0) ≡ three_bytes (slot_number (slot_of v)) = ap slot_bytes (word_at t _ i 2 f) ∙ slot-bytes v in
-    let three = appended-on _ _ (buffer out₀ n) (appended-on _ _ (buffer out₀ n) p q) w in
-    let all : buffer out₃ r ≡ appended (buffer out₀ n) B = three ∙ ap (appended (buffer out₀ n)) (three-parts X Y Z) in
-    let h = appends B all (pre ++ ((run + 1) ∷ P)) h₀ (omega arith) in
+    let three = appended-on _ _ out₀ (appended-on _ _ out₀ p q) w in
+    let whole : out₃ ≡ appended out₀ B = three ∙ ap (appended out₀) (three-parts X Y Z) in
+    let h = appends B whole all (pre ++ ((run + 1) ∷ P)) h₀ (omega arith) in
     let flat : (pre ++ ((run + 1) ∷ P)) ++ B ≡ pre ++ node_bytes (pattern_set (ps ++ (pattern_of x y v ∷ []))) =
     append_assoc pre ((run + 1) ∷ P) B
     ∙ ap (λ (c : ℕ). pre ++ ((c + 1) ∷ (P ++ B))) e
     ∙ ap (λ (l : List ℕ). pre ++ l) (sym (set_more ps (pattern_of x y v))) in
-    subst (λ (l : List ℕ). Holds out₃ l r) flat h
+    subst (λ (l : List ℕ). Holds out₃ l all) flat h
 
-pub adds_none : (t : List ℕ) (i : ℕ) (out : List ℕ) (n run r : ℕ) → 14 < run → Adds t i out out n run r
-adds_none t i out n run r h pre ps x y v rest e few f g room = absurd (omega arith)
+pub adds_none : (t : List ℕ) (i : ℕ) (out : Filled) (run : ℕ) → 14 < run → Adds t i out out run
+adds_none t i out run h all pre ps x y v rest e few f g room = absurd (omega arith)
 
-pub adds-none-2 : (t : List ℕ) (i : ℕ) (out : List ℕ) (n run r : ℕ) → n ≤ 9 * run → Adds t i out out n run r
+pub adds-none-2 : (t : List ℕ) (i : ℕ) (out : Filled) (run : ℕ) → out.end ≤ 9 * run → Adds t i out out run
 unfolding node_bytes
-adds-none-2 t i out n run r h pre ps x y v rest e few f g room =
+adds-none-2 t i out run h all pre ps x y v rest e few f g room =
     let size = g.size in
     absurd (omega (arith, patterns-size ps, length-append pre ((0 + length ps) ∷ concat_map pattern_bytes ps)))

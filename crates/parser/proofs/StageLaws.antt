@@ -16,6 +16,7 @@ use Rattle.grammar.specs.Sparql.{optional_dot}
 use Rattle.grammar.specs.Grammar.{body_tokens}
 use Rattle.grammar.specs.Meaning.{Item, joined}
 use Rattle.grammar.proofs.Sizes.{tree-size}
+use Rattle.blocks.specs.Buffers.{Filled}
 use Rattle.blocks.specs.Blocks.{Holds}
 use Rattle.words.specs.Words.{token_word}
 use Rattle.words.proofs.WordLaws.{word_first}
@@ -51,11 +52,11 @@ items-longer ws is rest i =
 -- ---- a stage
 
 -- what is held, where nothing waits behind it
-pub none-waits : (out pre l : List ℕ) (n : ℕ) → Holds out (pre ++ l) n → Holds out (pre ++ (l ++ [])) n
-none-waits out pre l n h = subst (λ (x : List ℕ). Holds out (pre ++ x) n) (sym (append-nil l)) h
+pub none-waits : (out : Filled) (pre l : List ℕ) (all : ℕ) → Holds out (pre ++ l) all → Holds out (pre ++ (l ++ [])) all
+none-waits out pre l all h = subst (λ (x : List ℕ). Holds out (pre ++ x) all) (sym (append-nil l)) h
 
-module _ (t : List ℕ) (rest : List Token) (final : Node) (from : ℕ) (pre out : List ℕ) (g : Stage)
-    (s : Stands t rest final from pre out g) where
+module _ (t : List ℕ) (rest : List Token) (final : Node) (from all : ℕ) (pre : List ℕ) (out : Filled) (g : Stage)
+    (s : Stands t rest final from all pre out g) where
   pub stage-inside : g.next < length t
   stage-inside = go s.pending s.coming
     where
@@ -71,7 +72,7 @@ module _ (t : List ℕ) (rest : List Token) (final : Node) (from : ℕ) (pre out
       go none i = (i, refl)
       go (some u) c = absurd (w (word_first t _ g.next _ c.written))
 
-  pub stage-holds : pending_bytes s.pending ≡ [] → Holds out (pre ++ node_bytes (joined s.left (pattern_set s.run))) g.len
+  pub stage-holds : pending_bytes s.pending ≡ [] → Holds out (pre ++ node_bytes (joined s.left (pattern_set s.run))) all
   stage-holds e =
       let J = node_bytes (joined s.left (pattern_set s.run)) in
-      subst (λ (l : List ℕ). Holds out (pre ++ l) g.len) (ap (λ (l : List ℕ). J ++ l) e ∙ append-nil J) s.holds
+      subst (λ (l : List ℕ). Holds out (pre ++ l) all) (ap (λ (l : List ℕ). J ++ l) e ∙ append-nil J) s.holds

@@ -12,6 +12,7 @@ use Rattle.tsparql.specs.Writing.{node_bytes}
 use Rattle.grammar.specs.Tokens.{Token}
 use Rattle.grammar.specs.Grammar.{Slot}
 use Rattle.grammar.specs.Meaning.{Item, a_triple, pattern_of, joined, gathered}
+use Rattle.blocks.specs.Buffers.{Filled}
 use Rattle.blocks.specs.Blocks.{Holds}
 use Rattle.words.specs.Words.{token_word, words, slot_word}
 use Rattle.words.proofs.WordLaws.{words-on}
@@ -50,7 +51,7 @@ triple-at t i is rest h w =
 -- ---- a new set
 
 -- the empty set has one byte
-empty-set : (out pre : List ℕ) (n : ℕ) → Holds out (pre ++ (0 ∷ [])) n → Holds out (pre ++ node_bytes (pattern_set [])) n
+empty-set : (out : Filled) (pre : List ℕ) (n : ℕ) → Holds out (pre ++ (0 ∷ [])) n → Holds out (pre ++ node_bytes (pattern_set [])) n
 unfolding node_bytes
 empty-set out pre n h = h
 
@@ -63,18 +64,17 @@ gathered-new left (q ∷ run) p later (inl e) = absurd (omega arith)
 gathered-new left run p later (inr e) = sym (rw (eq-eqb (length run) 15 e))
 
 pub triple-new :
-    (t out out₁ out₂ : List ℕ) (from m e : ℕ) (g : Stage) → (g.run ≡ 0) ⊎ (15 ≤ g.run) → length out₁ ≡ length out
-    → length out₂ ≡ length out₁ → Begins out out₁ from g.len m → Adds t g.next out₁ out₂ m 0 e
-    → Triples t from out out₂ g (record { next = g.next + 3; mid = e; len = e; run = 1 })
-triple-new t out out₁ out₂ from m e g o same same₂ begins adds rest pre final w s =
-    let idle = stage-items t rest final from pre out g s (λ c. omega arith) in
+    (t : List ℕ) (out out₁ out₂ : Filled) (from e : ℕ) (g : Stage) → (g.run ≡ 0) ⊎ (15 ≤ g.run) → Begins out out₁ from
+    → Adds t g.next out₁ out₂ 0 → e ≡ out₂.end → Triples t from out out₂ g (record { next = g.next + 3; mid = e; run = 1 })
+triple-new t out out₁ out₂ from e g o begins adds end all rest pre final w s =
+    let idle = stage-items t rest final from all pre out g s (λ c. omega arith) in
     let f = front t rest g.next s.items (triple-at t g.next s.items rest w (items-walks idle.0)) in
     let p = pattern_of f.x f.y f.z in
     let L = joined s.left (pattern_set s.run) in
     let J = node_bytes L in
     let N = node_bytes (joined L (pattern_set (p ∷ []))) in
     let start = s.start in
-    let held = stage-holds t rest final from pre out g s idle.1 in
+    let held = stage-holds t rest final from all pre out g s idle.1 in
     let size = held.size in
     let room = s.room in
     let words₁ = ap length f.written in
@@ -84,14 +84,14 @@ triple-new t out out₁ out₂ from m e g o same same₂ begins adds rest pre fi
     let wide = length-append pre J in
     let wide₂ = length-append pre (before L ++ (0 ∷ [])) in
     let wide₃ = length-append (before L) (0 ∷ []) in
-    let h₁ = begins pre L start held (omega arith) in
+    let h₁ = begins all pre L start held (omega arith) in
     let size₁ = h₁.size in
-    let h₁' = subst (λ (l : List ℕ). Holds out₁ l m) (sym (append_assoc pre (before L) (0 ∷ []))) h₁ in
-    let set = empty-set out₁ (pre ++ before L) m h₁' in
-    let h₂ = adds (pre ++ before L) [] f.x f.y f.z (words f.tail) refl (omega arith) f.written set (omega arith) in
+    let h₁' = subst (λ (l : List ℕ). Holds out₁ l all) (sym (append_assoc pre (before L) (0 ∷ []))) h₁ in
+    let set = empty-set out₁ (pre ++ before L) all h₁' in
+    let h₂ = adds all (pre ++ before L) [] f.x f.y f.z (words f.tail) refl (omega arith) f.written set (omega arith) in
     let flat : (pre ++ before L) ++ node_bytes (pattern_set (p ∷ [])) ≡ pre ++ N =
     append_assoc pre (before L) (node_bytes (pattern_set (p ∷ []))) ∙ ap (λ (l : List ℕ). pre ++ l) (joined-set L p []) in
-    let h₃ = subst (λ (l : List ℕ). Holds out₂ l e) flat h₂ in
+    let h₃ = subst (λ (l : List ℕ). Holds out₂ l all) flat h₂ in
     let size₃ = h₃.size in
     let one = set-size (p ∷ []) in
     let wide₄ = length-append (pre ++ before L) (node_bytes (pattern_set (p ∷ []))) in
@@ -108,8 +108,8 @@ triple-new t out out₁ out₂ from m e g o same same₂ begins adds rest pre fi
           ∙ sym (ap (λ (is : List Item). gathered s.left s.run is) f.means)
           ∙ s.yields;
       closed = tt;
-      holds = none-waits out₂ pre N e h₃;
-      middle = size₃ ∙ length-append pre N;
+      holds = none-waits out₂ pre N all h₃;
+      middle = end ∙ size₃ ∙ length-append pre N;
       count = refl;
       few = omega arith;
       room = omega (arith, ap length on, ap length flat, wide₄, length-append pre (before L));
@@ -135,11 +135,10 @@ joined-run x [] h = absurd (omega arith)
 joined-run x (p ∷ ps) h = joined-set x p ps
 
 pub triple-more :
-    (t out out₁ : List ℕ) (from e : ℕ) (g : Stage) → 1 ≤ g.run → g.run < 15 → length out₁ ≡ length out
-    → Adds t g.next out out₁ g.len g.run e
-    → Triples t from out out₁ g (record { next = g.next + 3; mid = e; len = e; run = g.run + 1 })
-triple-more t out out₁ from e g o l same adds rest pre final w s =
-    let idle = stage-items t rest final from pre out g s (λ c. omega arith) in
+    (t : List ℕ) (out out₁ : Filled) (from e : ℕ) (g : Stage) → 1 ≤ g.run → g.run < 15 → Adds t g.next out out₁ g.run → e ≡ out₁.end
+    → Triples t from out out₁ g (record { next = g.next + 3; mid = e; run = g.run + 1 })
+triple-more t out out₁ from e g o l adds end all rest pre final w s =
+    let idle = stage-items t rest final from all pre out g s (λ c. omega arith) in
     let f = front t rest g.next s.items (triple-at t g.next s.items rest w (items-walks idle.0)) in
     let p = pattern_of f.x f.y f.z in
     let x = s.left in
@@ -147,7 +146,7 @@ triple-more t out out₁ from e g o l same adds rest pre final w s =
     let run' = run ++ (p ∷ []) in
     let N = node_bytes (joined x (pattern_set run')) in
     let start = s.start in
-    let held = stage-holds t rest final from pre out g s idle.1 in
+    let held = stage-holds t rest final from all pre out g s idle.1 in
     let size = held.size in
     let room = s.room in
     let count = s.count in
@@ -159,9 +158,9 @@ triple-more t out out₁ from e g o l same adds rest pre final w s =
     ap (λ (l : List ℕ). pre ++ l) (sym (joined-run x run (omega arith))) ∙ sym (append_assoc pre (before x) (node_bytes (pattern_set run))) in
     let becomes : (pre ++ before x) ++ node_bytes (pattern_set run') ≡ pre ++ N =
     append_assoc pre (before x) (node_bytes (pattern_set run')) ∙ ap (λ (l : List ℕ). pre ++ l) (joined-run x run' (omega arith)) in
-    let held' = subst (λ (l : List ℕ). Holds out l g.len) was held in
+    let held' = subst (λ (l : List ℕ). Holds out l all) was held in
     let size' = held'.size in
-    let h = adds (pre ++ before x) run f.x f.y f.z (words f.tail) count (omega arith) f.written held' (omega arith) in
+    let h = adds all (pre ++ before x) run f.x f.y f.z (words f.tail) count (omega arith) f.written held' (omega arith) in
     let size₁ = h.size in
     let one = set-size run in
     let two = set-size run' in
@@ -176,8 +175,8 @@ triple-more t out out₁ from e g o l same adds rest pre final w s =
       yields =
           gathered-more x run p f.later (λ c. omega arith) ∙ sym (ap (λ (is : List Item). gathered x run is) f.means) ∙ s.yields;
       closed = tt;
-      holds = none-waits out₁ pre N e (subst (λ (l : List ℕ). Holds out₁ l e) becomes h);
-      middle = size₁ ∙ ap length becomes ∙ length-append pre N;
+      holds = none-waits out₁ pre N all (subst (λ (l : List ℕ). Holds out₁ l all) becomes h);
+      middle = end ∙ size₁ ∙ ap length becomes ∙ length-append pre N;
       count = omega arith;
       few = omega arith;
       room = omega (

@@ -8,9 +8,9 @@ use Rattle.tsparql.specs.Writing.{node_bytes}
 use Rattle.grammar.specs.Tokens.{Token}
 use Rattle.grammar.specs.Grammar.{Body, body_tokens, Unions, unions_tokens}
 use Rattle.grammar.specs.Meaning.{Item, a_group, joined, gathered, group_node, items, united}
+use Rattle.blocks.specs.Buffers.{Filled}
 use Rattle.blocks.specs.Blocks.{Holds}
 use Rattle.words.specs.Words.{words}
-use Rattle.clauses.specs.declared.Block.{Block}
 use Rattle.groups.specs.Items.{Items, Follows}
 use Rattle.groups.specs.Passes.{BodyAt, gathered_bytes}
 use Rattle.parser.specs.Sets.{pending_bytes}
@@ -39,7 +39,7 @@ Closed none run = Unit {0}
 Closed (some u) run = run ≡ []
 
 -- from the stage g the words t, up to those of rest, give the node `final` behind the `from` bytes `pre`
-pub record Stands (t : List ℕ) (rest : List Token) (final : Node) (from : ℕ) (pre out : List ℕ) (g : Stage) : Type 0 where
+pub record Stands (t : List ℕ) (rest : List Token) (final : Node) (from all : ℕ) (pre : List ℕ) (out : Filled) (g : Stage) : Type 0 where
   pub start : from ≡ length pre
   pub left : Node
   pub run : List Pattern
@@ -48,41 +48,41 @@ pub record Stands (t : List ℕ) (rest : List Token) (final : Node) (from : ℕ)
   pub coming : Coming pending (drop g.next t) items rest
   pub yields : gathered left run items ≡ final
   pub closed : Closed pending run
-  pub holds : Holds out (pre ++ (node_bytes (joined left (pattern_set run)) ++ pending_bytes pending)) g.len
+  pub holds : Holds out (pre ++ (node_bytes (joined left (pattern_set run)) ++ pending_bytes pending)) all
   pub middle : g.mid ≡ length pre + length (node_bytes (joined left (pattern_set run)))
   pub count : g.run ≡ length run
   pub few : length run ≤ 15
-  pub room : g.len + 4 * length (drop g.next t) ≤ length out + 4 * length rest + 1
+  pub room : out.end + 4 * length (drop g.next t) ≤ all + 4 * length rest + 1
 
 -- ---- promises
 
--- what is joined in a body was written behind `from` bytes, and b is where words and bytes end
-abbrev pub Gathers : List ℕ → ℕ → ℕ → List ℕ → List ℕ → Block → Type 0
-Gathers t at from out out' b =
-    (g : Body true) (rest : List Token) (pre : List ℕ) → BodyAt t at g rest → Holds out pre from
-    → from + 4 * length (drop at t) ≤ length out + 4 * length rest
-    → (drop b.next t ≡ words rest) × Holds out' (pre ++ gathered_bytes g) b.len
+-- what is joined in a body was written behind the end, and its words end at `next`
+abbrev pub Gathers : List ℕ → ℕ → Filled → Filled → ℕ → Type 0
+Gathers t at out out' next =
+    (all : ℕ) (g : Body true) (rest : List Token) (pre : List ℕ) → BodyAt t at g rest → Holds out pre all
+    → out.end + 4 * length (drop at t) ≤ all + 4 * length rest
+    → (drop next t ≡ words rest) × Holds out' (pre ++ gathered_bytes g) all
 
 -- where the body begins of a group whose first word is w at i: behind '{', and behind the brace that follows OPTIONAL or UNION
 abbrev pub body_place : ℕ → ℕ → P.Option ℕ
 body_place w i = cond (eqb w 123) (P.Some (i + 1)) (cond (eqb w 79 || eqb w 85) (P.Some (i + 2)) P.None)
 
 -- the gathering goes on over a triple
-abbrev pub Triples : List ℕ → ℕ → List ℕ → List ℕ → Stage → Stage → Type 0
+abbrev pub Triples : List ℕ → ℕ → Filled → Filled → Stage → Stage → Type 0
 Triples t from out out' g r =
-    (rest : List Token) (pre : List ℕ) (final : Node) → 256 ≤ get_or t g.next 0 → Stands t rest final from pre out g
-    → Stands t rest final from pre out' r
+    (all : ℕ) (rest : List Token) (pre : List ℕ) (final : Node) → 256 ≤ get_or t g.next 0 → Stands t rest final from all pre out g
+    → Stands t rest final from all pre out' r
 
 -- over whatever begins no group and does not end this one
-abbrev pub Passes : List ℕ → ℕ → List ℕ → List ℕ → Stage → Stage → Type 0
+abbrev pub Passes : List ℕ → ℕ → Filled → Filled → Stage → Stage → Type 0
 Passes t from out out' g r =
-    (rest : List Token) (pre : List ℕ) (final : Node) → (get_or t g.next 0 ≡ 125 → ⊥)
+    (all : ℕ) (rest : List Token) (pre : List ℕ) (final : Node) → (get_or t g.next 0 ≡ 125 → ⊥)
     → body_place (get_or t g.next 0) g.next ≡ P.None
-    → Stands t rest final from pre out g → Stands t rest final from pre out' r
+    → Stands t rest final from all pre out g → Stands t rest final from all pre out' r
 
--- and over a group, whose body begins at a, and what is joined in which was written behind the stage's bytes, in a buffer as long
-abbrev pub Closes : List ℕ → ℕ → ℕ → List ℕ → List ℕ → Stage → Block → Stage → Type 0
-Closes t a from out out' g b r =
-    (rest : List Token) (pre out₀ : List ℕ) (final : Node) → P.Some a ≡ body_place (get_or t g.next 0) g.next
-    → length out ≡ length out₀ → Stands t rest final from pre out₀ g → Gathers t a g.len out₀ out b
-    → Stands t rest final from pre out' r
+-- and over a group, whose body begins at a, and what is joined in which was written from `end` on
+abbrev pub Closes : List ℕ → ℕ → ℕ → Filled → Filled → Stage → ℕ → ℕ → Stage → Type 0
+Closes t a from out out' g end next r =
+    (all : ℕ) (rest : List Token) (pre : List ℕ) (out₀ : Filled) (final : Node) → P.Some a ≡ body_place (get_or t g.next 0) g.next
+    → end ≡ out₀.end → Stands t rest final from all pre out₀ g → Gathers t a out₀ out next
+    → Stands t rest final from all pre out' r

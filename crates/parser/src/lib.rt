@@ -3,73 +3,66 @@
 // Groups: nodes that stand last; triples; a group.
 #![tactic(auto)]
 
-ghost use Rattle.std.specs.Prelude.{◌≡◌, ◌≤◌, ◌<◌, length, get_or, set};
-ghost use Rattle.blocks.specs.Buffers.{buffer, appended};
+ghost use Rattle.std.specs.Prelude.{◌≡◌, ◌≤◌, ◌<◌, length, get_or};
+ghost use Rattle.blocks.specs.Buffers.{appended};
 ghost use Rattle.parser.specs.Sets.{Unites, Joins, Begins, slot_bytes, Adds};
 ghost use Rattle.parser.specs.Stages.{body_place, Triples, Passes, Closes, Gathers};
 
-use blocks::{append, append3, exchange, put};
-use clauses::Block;
+use blocks::Buffer;
 use groups::{filtered, split, step};
 use words::{FIRST_NUMBER, FIRST_VARIABLE, LBRACE, OPTIONAL, RBRACE, Text, UNION, word};
 
 // ---- nodes that stand last in a buffer
 
 // The node behind `mid`, united with the one from `mid` to `end` where there is one.
-fn unite(out: &mut [u8], mid: usize, end: usize, n: usize) -> usize
-    ensures { Unites out.old out.new mid end n result }
+fn unite(out: &mut Buffer<'_>, mid: usize, end: usize)
+    ensures { Unites out.old out.new mid end }
 {
     if mid < end {
-        return put(out, mid, n, 48);
+        out.put(mid, 48);
     }
-    n
 }
 
-// The nodes from `from` to `mid` and to n, joined; the empty set, which has one byte, is dropped.
-fn join(out: &mut [u8], from: usize, mid: usize, n: usize) -> usize
-    ensures { Joins out.old out.new from mid n result }
+// The nodes from `from` to `mid` and to the end, joined; the empty set, which has one byte, is dropped.
+fn join(out: &mut Buffer<'_>, from: usize, mid: usize)
+    ensures { Joins out.old out.new from mid }
 {
+    let n = out.len();
     if n <= mid || mid <= from {
-        return n;
+        return;
     }
     if n - mid == 1 {
-        return mid;
+        out.truncate(mid);
+        return;
     }
     if mid - from == 1 {
-        exchange(out, from, mid, n);
-        return n - 1;
+        out.exchange(from, mid);
+        out.truncate(n - 1);
+        return;
     }
-    put(out, from, n, 16)
+    out.put(from, 16);
 }
 
 // An empty set, joined to the node behind `from` bytes.
-fn begin(out: &mut [u8], from: usize, n: usize) -> usize
-    ensures { Begins out.old out.new from n result }
+fn begin(out: &mut Buffer<'_>, from: usize)
+    ensures { Begins out.old out.new from }
 {
+    let n = out.len();
     if n <= from || n - from == 1 {
-        return n;
+        return;
     }
-    let m = append(out, n, 0);
-    put(out, from, m, 16)
+    out.append(0);
+    out.put(from, 16);
 }
 
 // ---- triples
-
-// The byte v at a place.
-fn mark(out: &mut [u8], h: usize, v: u8)
-    ensures { out.new ≡ set out.old h v }
-{
-    if h < out.len() {
-        out[h] = v;
-    }
-}
 
 // The kind of a variable, in a slot's 24 bits.
 const VARIABLE_SLOT: u32 = 1048576;
 
 // A slot behind the end.
-fn slot(t: &[u32], i: usize, out: &mut [u8], n: usize) -> usize
-    ensures { buffer out.new result ≡ appended (buffer out.old n) (slot_bytes (get_or t.now i 0)) }
+fn slot(t: &[u32], i: usize, out: &mut Buffer<'_>)
+    ensures { out.new ≡ appended out.old (slot_bytes (get_or t.now i 0)) }
 {
     let x = word(t, i);
     let bits = if x < FIRST_NUMBER {
@@ -77,58 +70,56 @@ fn slot(t: &[u32], i: usize, out: &mut [u8], n: usize) -> usize
     } else {
         x
     };
-    append3(out, n, bits)
+    out.append3(bits);
 }
 
 // A triple into the set of `run` triples that stands last.
-fn add(t: &[u32], i: usize, out: &mut [u8], n: usize, run: usize) -> usize
+fn add(t: &[u32], i: usize, out: &mut Buffer<'_>, run: usize)
     requires { i < length t.now }
-    ensures { Adds t.now i out.old out.new n run result }
+    ensures { Adds t.now i out.old out.new run }
 {
+    let n = out.len();
     if 14 < run || n <= 9 * run {
-        return n;
+        return;
     }
-    mark(out, n - 1 - 9 * run, (run + 1) as u8);
-    let a = slot(t, i, out, n);
-    let b = slot(t, i + 1, out, a);
-    slot(t, i + 2, out, b)
+    out.set(n - 1 - 9 * run, (run + 1) as u8);
+    slot(t, i, out);
+    slot(t, i + 1, out);
+    slot(t, i + 2, out);
 }
 
 // ---- a group
 
 // Where the gathering of a group stands: before the word `next`; what is joined ends at `mid`, an operand whose union goes on stands from
-// there to `len`; `run` triples are in the last set.
+// there to the end; `run` triples are in the last set.
 #[derive(Clone, Copy)]
 pub struct Stage {
     pub next: usize,
     pub mid: usize,
-    pub len: usize,
     pub run: usize,
 }
 
 // The stage behind the triple at `next`, which is added to the last set of fewer than fifteen, or begins one.
-fn triple(t: &[u32], out: &mut [u8], from: usize, g: Stage) -> Stage
+fn triple(t: &[u32], out: &mut Buffer<'_>, from: usize, g: Stage) -> Stage
     requires { g.next < length t.now }
     ensures { (g.next < result.next) × Triples t.now from out.old out.new g result }
 {
     let i = g.next;
     match g.run {
         1..=14 => {
-            let e = add(t, i, out, g.len, g.run);
+            add(t, i, out, g.run);
             Stage {
                 next: i + 3,
-                mid: e,
-                len: e,
+                mid: out.len(),
                 run: g.run + 1,
             }
         }
         _ => {
-            let m = begin(out, from, g.len);
-            let e = add(t, i, out, m, 0);
+            begin(out, from);
+            add(t, i, out, 0);
             Stage {
                 next: i + 3,
-                mid: e,
-                len: e,
+                mid: out.len(),
                 run: 1,
             }
         }
@@ -136,7 +127,7 @@ fn triple(t: &[u32], out: &mut [u8], from: usize, g: Stage) -> Stage
 }
 
 // The stage behind an item without braces, or a dot.
-fn pass(t: &Text, out: &mut [u8], from: usize, g: Stage) -> Stage
+fn pass(t: &Text, out: &mut Buffer<'_>, from: usize, g: Stage) -> Stage
     requires { g.next < length t.now }
     ensures { (g.next < result.next) × Passes t.now from out.old out.new g result }
 {
@@ -149,38 +140,41 @@ fn pass(t: &Text, out: &mut [u8], from: usize, g: Stage) -> Stage
     }
 }
 
-// The stage behind a group whose body begins at a place and which was written behind the stage's bytes: left-joined, or united and joined.
-fn close(t: &Text, a: usize, out: &mut [u8], from: usize, g: Stage, b: Block) -> Stage
-    ensures { (b.next ≤ result.next) × Closes t.now a from out.old out.new g b result }
+// The stage behind a group whose body, from the word `a` to `next`, was written from `end` on: left-joined, or united and joined.
+fn close(
+    t: &Text,
+    a: usize,
+    out: &mut Buffer<'_>,
+    from: usize,
+    g: Stage,
+    end: usize,
+    next: usize,
+) -> Stage
+    ensures { (next ≤ result.next) × Closes t.now a from out.old out.new g end next result }
 {
-    let next = b.next;
     if t.word(g.next) == OPTIONAL {
-        let h = split(t, a, out, g.len, b.len);
-        exchange(out, from, h.mid, h.len);
-        let n = put(out, from, h.len, 32);
+        let condition = split(t, a, out, end);
+        out.exchange(from, condition);
+        out.put(from, 32);
         return Stage {
             next,
-            mid: n,
-            len: n,
+            mid: out.len(),
             run: 0,
         };
     }
-    let mid = g.mid;
-    let n = filtered(t, a, out, g.len, b.len);
-    let k = unite(out, mid, g.len, n);
+    filtered(t, a, out, end);
+    unite(out, g.mid, end);
     if t.word(next) == UNION {
         return Stage {
             next,
-            mid,
-            len: k,
+            mid: g.mid,
             run: 0,
         };
     }
-    let j = join(out, from, mid, k);
+    join(out, from, g.mid);
     Stage {
         next,
-        mid: j,
-        len: j,
+        mid: out.len(),
         run: 0,
     }
 }
@@ -197,34 +191,29 @@ fn body_place(t: &Text, i: usize) -> Option<usize>
     }
 }
 
-// What is joined in the group whose body begins at a place, behind `from` bytes, up to and over the closing brace.
-pub fn gather(t: &Text, at: usize, out: &mut [u8], from: usize) -> Block
-    ensures { (at ≤ result.next) × Gathers t.now at from out.old out.new result }
+// What is joined in the group whose body begins at a place, behind the end: the place behind the closing brace.
+pub fn gather(t: &Text, at: usize, out: &mut Buffer<'_>) -> usize
+    ensures { (at ≤ result) × Gathers t.now at out.old out.new result }
 {
-    let n = append(out, from, 0);
+    let from = out.len();
+    out.append(0);
     let mut g = Stage {
         next: at,
-        mid: n,
-        len: n,
+        mid: out.len(),
         run: 0,
     };
     while g.next < t.len() {
         if t.word(g.next) == RBRACE {
-            return Block {
-                next: g.next + 1,
-                len: g.len,
-            };
+            return g.next + 1;
         }
         match body_place(t, g.next) {
             Some(a) => {
-                let b = gather(t, a, out, g.len);
-                g = close(t, a, out, from, g, b);
+                let end = out.len();
+                let next = gather(t, a, out);
+                g = close(t, a, out, from, g, end, next);
             }
             None => g = pass(t, out, from, g),
         }
     }
-    Block {
-        next: g.next,
-        len: g.len,
-    }
+    g.next
 }

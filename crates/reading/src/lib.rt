@@ -6,6 +6,7 @@ ghost use Rattle.grammar.specs.ReadText.{read_text};
 ghost use Rattle.refusals.specs.Refusals.{written_in};
 ghost use Rattle.reading.specs.Answers.{delivered, Renders, Writes};
 
+use blocks::Buffer;
 use groups::filtered;
 use lexer::scan;
 use parser::gather;
@@ -15,13 +16,13 @@ use words::Text;
 // The most bytes of a text.
 const TEXT_LIMIT: usize = 4096;
 
-// The query's bytes, at the front of a buffer.
-fn render<'a>(t: &Text, buffer: &'a mut [u8]) -> &'a [u8]
-    ensures { Renders t.now (length buffer.old) result.now }
+// The query's bytes, at the front of an empty buffer.
+fn render(t: &Text, out: &mut Buffer<'_>)
+    requires { out.old.end ≡ 0 }
+    ensures { Renders t.now out.old out.new }
 {
-    let b = gather(t, 1, buffer, 0);
-    let n = filtered(t, 1, buffer, 0, b.len);
-    &buffer[..n.min(buffer.len())]
+    gather(t, 1, out);
+    filtered(t, 1, out, 0);
 }
 
 // Bytes into the output; refusal 12 where that is shorter.
@@ -42,9 +43,11 @@ fn write(words: &[u32], output: &mut [u8]) -> Result<usize, Refused>
     ensures { Writes words.now output.old output.new result }
 {
     let mut ends = [0u16; TEXT_LIMIT + 1];
-    let mut buffer = [0u8; 4 * TEXT_LIMIT];
+    let mut space = [0u8; 4 * TEXT_LIMIT];
     let t = Text::new(words, &mut ends);
-    deliver(render(&t, &mut buffer), output)
+    let mut buffer = Buffer::new(&mut space);
+    render(&t, &mut buffer);
+    deliver(buffer.bytes(), output)
 }
 
 // The query bytes of a text at the front of the output: refusals 11 and 12.

@@ -8,7 +8,7 @@ abbrev pub decreases-condition : goal.decreases-condition
 decreases-condition l = length l.t.now - l.at
 
 abbrev pub invariant-loop-w : goal.invariant-loop-w
-invariant-loop-w l = Conditioning l.t l.at l.from l.initial.out l.out l.s
+invariant-loop-w l = Conditioning l.t l.at l.initial.out l.out l.s
 
 abbrev pub decreases-loop-w : goal.decreases-loop-w
 decreases-loop-w l = length l.t - l.s.next

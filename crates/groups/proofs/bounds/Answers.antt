@@ -9,7 +9,7 @@ use native.Mathlib.Omega.{arith}
 use Rattle.groups.proofs.bounds.Goals as goal
 
 pub loop-i-init : goal.loop-i-init
-loop-i-init c = making-first Node bounded node_bytes _ _ _ _ _
+loop-i-init c = making-first Node bounded node_bytes _ _ _ _
 
 pub loop-i-smaller : goal.loop-i-smaller
 loop-i-smaller c =
@@ -21,12 +21,11 @@ pub loop-i-preserved : goal.loop-i-preserved
 loop-i-preserved c =
     let turn = c.loop-i in
     let a = c.args in
-    let call = c.put4-n in
     let seeks = c.in-Some.ensures.seeks in
-    making-on Node bounded node_bytes a.t.now a.at a.from _ _ _ _ c.in-Some.i _ _ _ call.auto.out
-    (bound-turn a.t.now a.from _ _ c.in-Some.i _ _ _ _ _ _ _ seeks.2 c.word.ensures.value c.word-in-Some.ensures.value
-    c.thousandths-l.ensures.1 c.thousandths-u.ensures.1 call.ensures (next_place_lem _ _ _ c.step-next.ensures))
-    (making-at Node bounded node_bytes a.t.now a.at a.from _ _ 69 bounded-over _ turn.next _ _ seeks turn.invariant)
+    making-on Node bounded node_bytes a.t.now a.at a.from _ _ _ c.in-Some.i _
+    (bound-turn a.t.now a.from _ _ c.in-Some.i _ _ _ _ _ seeks.2 c.word.ensures.value c.word-in-Some.ensures.value
+    c.thousandths-l.ensures.1 c.thousandths-u.ensures.1 c.put4.ensures (next_place_lem _ _ _ c.step-next.ensures))
+    (making-at Node bounded node_bytes a.t.now a.at a.from _ 69 bounded-over _ turn.next _ seeks turn.invariant)
 
 pub returns : goal.returns
-returns c = making-end Node bounded node_bytes _ _ _ _ _ 69 bounded-over _ _ _ bounded-nil c.in_default.ensures.seeks c.loop-i.invariant
+returns c = making-end Node bounded node_bytes _ _ _ _ 69 bounded-over _ _ bounded-nil c.in_default.ensures.seeks c.loop-i.invariant

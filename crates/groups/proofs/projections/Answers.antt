@@ -10,7 +10,7 @@ use native.Mathlib.Omega.{arith}
 use Rattle.groups.proofs.projections.Goals as goal
 
 pub loop-i-init : goal.loop-i-init
-loop-i-init c = making-first Node projected node_bytes _ _ _ _ _
+loop-i-init c = making-first Node projected node_bytes _ _ _ _
 
 pub loop-i-smaller : goal.loop-i-smaller
 loop-i-smaller c =
@@ -22,12 +22,11 @@ pub loop-i-preserved : goal.loop-i-preserved
 loop-i-preserved c =
     let turn = c.loop-i in
     let a = c.args in
-    let call = c.put-n in
     let seeks = c.in-Some.ensures.seeks in
-    making-on Node projected node_bytes a.t.now a.at a.from _ _ _ _ c.in-Some.i _ _ _ call.auto.out
-    (projection-turn a.t.now a.from _ _ c.in-Some.i _ _ _ _ seeks.2 c.word-v.ensures.value (puts _ call.ensures)
+    making-on Node projected node_bytes a.t.now a.at a.from _ _ _ c.in-Some.i _
+    (projection-turn a.t.now a.from _ _ c.in-Some.i _ _ seeks.2 c.word-v.ensures.value (puts _ c.put.ensures)
     (next_place_lem _ _ _ c.step-next.ensures))
-    (making-at Node projected node_bytes a.t.now a.at a.from _ _ 84 projected-over _ turn.next _ _ seeks turn.invariant)
+    (making-at Node projected node_bytes a.t.now a.at a.from _ 84 projected-over _ turn.next _ seeks turn.invariant)
 
 pub returns : goal.returns
-returns c = making-end Node projected node_bytes _ _ _ _ _ 84 projected-over _ _ _ projected-nil c.in_default.ensures.seeks c.loop-i.invariant
+returns c = making-end Node projected node_bytes _ _ _ _ 84 projected-over _ _ projected-nil c.in_default.ensures.seeks c.loop-i.invariant

@@ -8,7 +8,7 @@ use Rattle.groups.proofs.Passing.{Making}
 use Rattle.groups.proofs.projections.Given as goal
 
 abbrev pub invariant-loop-i : goal.invariant-loop-i
-invariant-loop-i l = Making Node projected node_bytes l.t l.at l.from l.len l.initial.out l.out l.next l.n
+invariant-loop-i l = Making Node projected node_bytes l.t l.at l.from l.initial.out l.out l.next
 
 abbrev pub decreases-loop-i : goal.decreases-loop-i
 decreases-loop-i l = length l.t - l.next

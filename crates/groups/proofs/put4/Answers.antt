@@ -7,7 +7,7 @@ use native.Mathlib.Omega.{arith}
 use lib.ListN.{get_or}
 use Rattle.std.specs.Int.{to_be_bytes}
 use Rattle.tsparql.specs.Writing.{three_bytes}
-use Rattle.blocks.specs.Buffers.{Buffer, buffer, inserted, prepended}
+use Rattle.blocks.specs.Buffers.{Filled, inserted, prepended}
 use Rattle.groups.proofs.put4.Goals as goal
 
 number-bytes :
@@ -21,10 +21,10 @@ unfolding prepended
 returns c =
     let at = c.args.at in
     let bs = c.to_be_bytes.result in
-    let b = buffer c.args.out.now c.args.end in
-    c.put.ensures
-    ∙ ap (λ (b : Buffer). inserted b at 96)
-    (c.put-c.ensures
-    ∙ ap (λ (b : Buffer). inserted b at (get_or bs 1 0))
-    (c.put-b.ensures ∙ ap (λ (b : Buffer). inserted b at (get_or bs 2 0)) c.put-a.ensures))
+    let b = c.args.out.now in
+    c.put-4.ensures
+    ∙ ap (λ (b : Filled). inserted b at 96)
+    (c.put-3.ensures
+    ∙ ap (λ (b : Filled). inserted b at (get_or bs 1 0))
+    (c.put-2.ensures ∙ ap (λ (b : Filled). inserted b at (get_or bs 2 0)) c.put.ensures))
     ∙ ap (λ (vs : List ℕ). prepended b at (96 ∷ vs)) (number-bytes c.args.x bs c.requires c.to_be_bytes.ensures)

@@ -8,7 +8,7 @@ abbrev pub decreases-gather : goal.decreases-gather
 decreases-gather l = length l.t.now - l.at
 
 abbrev pub invariant-loop-g : goal.invariant-loop-g
-invariant-loop-g l = Gathering l.t l.at l.from l.n l.initial.out l.out l.g
+invariant-loop-g l = Gathering l.t l.at l.from l.initial.out l.out l.g
 
 abbrev pub decreases-loop-g : goal.decreases-loop-g
 decreases-loop-g l = length l.t - l.g.next

@@ -9,12 +9,12 @@ pub returns-then-run-gt14 : goal.returns-then-run-gt14
 returns-then-run-gt14 c =
     let a = c.args in
     elim c.then-run-gt14.branch [
-      | then-run-gt14-via-then-run-gt14 w ↦ adds_none a.t.now a.i _ _ _ _ (omega arith)
-      | then-run-gt14-via-else-run-gt14+then-n-run w ↦ adds-none-2 a.t.now a.i _ _ _ _ (omega arith)
+      | then-run-gt14-via-then-run-gt14 w ↦ adds_none a.t.now a.i _ _ (omega arith)
+      | then-run-gt14-via-else-run-gt14+then-n-run w ↦ adds-none-2 a.t.now a.i _ _ (omega arith)
     ]
 
 pub returns : goal.returns
 returns c =
     let a = c.args in
-    adds a.t.now a.i _ _ _ _ _ _ _ _ _ _ c.mark.auto.out (search rules)
-    c.mark.ensures c.slot-a.ensures c.slot-b.ensures c.slot.ensures
+    adds a.t.now a.i _ _ _ _ _ _ _ c.len-n.ensures (search rules)
+    c.set.ensures c.slot.ensures c.slot-2.ensures c.slot-3.ensures

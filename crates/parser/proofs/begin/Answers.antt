@@ -8,10 +8,10 @@ use Rattle.parser.proofs.begin.Goals.{then-n-from-via-then-n-from, then-n-from-v
 pub returns-then-n-from : goal.returns-then-n-from
 returns-then-n-from c =
     elim c.then-n-from.branch [
-      | then-n-from-via-then-n-from w ↦ begins-none _ _ _ _ (omega arith)
-      | then-n-from-via-else-n-from+then-n-from-eq1 w ↦ begins-empty _ _ _ (omega arith) w.if-n-from-eq1.true
+      | then-n-from-via-then-n-from w ↦ begins-none _ _ (omega arith)
+      | then-n-from-via-else-n-from+then-n-from-eq1 w ↦ begins-empty _ _ (omega arith)
     ]
 
 pub returns : goal.returns
 returns c =
-    begins-full _ _ _ _ _ _ _ (omega arith) (λ e. omega arith) c.append-m.auto.out (appends _ c.append-m.ensures) (puts _ c.put.ensures)
+    begins-full _ _ _ _ (λ e. omega arith) (appends _ c.append.ensures) (puts _ c.put.ensures)

@@ -11,7 +11,7 @@ pub returns-in-1-to-14 : goal.returns-in-1-to-14
 returns-in-1-to-14 c =
     let a = c.args in (
       omega arith,
-      triple-more a.t.now _ _ a.from _ a.g (omega arith) (omega arith) c.add-e.auto.out c.add-e.ensures,
+      triple-more a.t.now _ _ a.from _ a.g (omega arith) (omega arith) c.add.ensures c.len.ensures,
     )
 
 pub returns-in_default : goal.returns-in_default
@@ -21,5 +21,5 @@ returns-in_default c =
     elim c.in_default.branch
     [ in_default-via-then-g-lt1 w ↦ inl (omega arith) | in_default-via-else-g-lt1+else-g-lt15 w ↦ inr (omega arith) ] in (
       omega arith,
-      triple-new a.t.now _ _ _ a.from _ _ a.g new c.begin-m.auto.out c.add-e-in_default.auto.out c.begin-m.ensures c.add-e-in_default.ensures,
+      triple-new a.t.now _ _ _ a.from _ a.g new c.begin.ensures c.add-in_default.ensures c.len-in_default.ensures,
     )

@@ -3,6 +3,4 @@ use Rattle.reading.proofs.WriteLaws.{renders}
 use Rattle.reading.proofs.render.Goals as goal
 
 pub returns : goal.returns
-returns c =
-    rw c.min.ensures
-    (renders c.args.t.now _ _ _ c.gather-b.result _ c.gather-b.auto.out c.filtered-n.auto.out c.gather-b.ensures.1 c.filtered-n.ensures)
+returns c = renders c.args.t.now _ _ _ _ c.requires c.gather.ensures.1 c.filtered.ensures

@@ -7,9 +7,9 @@ use Rattle.std.specs.Int.{to_be_bytes}
 use Prim.Native.Nat.{ℕ, ◌/◌, ◌%◌}
 use native.Mathlib.Omega.{arith}
 use Rattle.tsparql.specs.Writing.{three_bytes}
-use Rattle.blocks.specs.Buffers.{buffer, appended}
+use Rattle.blocks.specs.Buffers.{appended}
 use Rattle.blocks.proofs.Holding.{appended-on}
-use Rattle.blocks.proofs.append3.Goals as goal
+use Rattle.blocks.proofs.Buffer.append3.Goals as goal
 
 low-bytes :
     (x : ℕ) (bs : List ℕ) → bs ≡ to_be_bytes w32 x → get_or bs 1 0 % 32 ∷ get_or bs 2 0 ∷ get_or bs 3 0 ∷ [] ≡ three_bytes (x % 2097152)
@@ -21,6 +21,6 @@ low-bytes x bs e =
 
 pub returns : goal.returns
 returns c =
-    let b = buffer c.args.out.now c.args.end in
-    appended-on _ _ b (appended-on _ _ b c.append-n.ensures c.append-m.ensures) c.append.ensures
+    let b = c.args.self.now in
+    appended-on _ _ b (appended-on _ _ b c.append.ensures c.append-2.ensures) c.append-3.ensures
     ∙ ap (appended b) (low-bytes c.args.x c.to_be_bytes.result c.to_be_bytes.ensures)
