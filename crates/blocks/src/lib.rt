@@ -8,7 +8,7 @@ ghost use Rattle.blocks.specs.Buffers.{buffer, shifted, inserted, appended, cut,
 
 use std::marker::Model;
 
-// Lent bytes, of which the first `len` are in use.
+// Lent bytes, of which the first `len` are in use; past the bytes' end nothing is written.
 #[derive(Drop)]
 pub struct Buffer<'a> {
     bytes: &'a mut [u8],
@@ -16,14 +16,11 @@ pub struct Buffer<'a> {
 }
 
 impl<'a> Model for Buffer<'a> {
-    ghost use Rattle.std.specs.Prelude.{◌≤◌, length};
     ghost use Rattle.blocks.specs.Buffers.{Filled, buffer};
 
     ghost Value = { Filled };
 
     ghost view = { λ b. buffer b.bytes.now b.len };
-
-    ghost invariant = { λ b. b.len ≤ length b.bytes.now };
 }
 
 // The byte v at `at`, and those from there to `end` one place on.
@@ -48,11 +45,11 @@ fn reverse(out: &mut [u8], from: usize, to: usize)
 }
 
 impl<'a> Buffer<'a> {
-    // None of the bytes in use.
-    pub fn new(bytes: &'a mut [u8]) -> Buffer<'a>
-        ensures { result ≡ buffer bytes.old 0 }
+    // The first `len` of the bytes in use.
+    pub fn new(bytes: &'a mut [u8], len: usize) -> Buffer<'a>
+        ensures { result ≡ buffer bytes.old len }
     {
-        Buffer { bytes, len: 0 }
+        Buffer { bytes, len }
     }
 
     // How many are in use.
@@ -66,7 +63,7 @@ impl<'a> Buffer<'a> {
     pub fn bytes(&self) -> &[u8]
         ensures { result.now ≡ take self.now.end self.now.bytes }
     {
-        &self.bytes[..self.len]
+        &self.bytes[..self.len.min(self.bytes.len())]
     }
 
     // Only the first n in use.
@@ -121,7 +118,7 @@ impl<'a> Buffer<'a> {
         ensures { self.new ≡ buffer (exchanged self.old.bytes at mid self.old.end) self.old.end }
     {
         let end = self.len;
-        if at <= mid && mid <= end {
+        if at <= mid && mid <= end && end <= self.bytes.len() {
             reverse(self.bytes, at, mid);
             reverse(self.bytes, mid, end);
             reverse(self.bytes, at, end);

@@ -45,7 +45,7 @@ fn write(words: &[u32], output: &mut [u8]) -> Result<usize, Refused>
     let mut ends = [0u16; TEXT_LIMIT + 1];
     let mut space = [0u8; 4 * TEXT_LIMIT];
     let t = Text::new(words, &mut ends);
-    let mut buffer = Buffer::new(&mut space);
+    let mut buffer = Buffer::new(&mut space, 0);
     render(&t, &mut buffer);
     deliver(buffer.bytes(), output)
 }
