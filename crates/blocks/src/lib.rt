@@ -6,6 +6,8 @@ ghost use Rattle.std.specs.Prelude.{[], ◌∷◌, ◌≡◌, ◌≤◌, ◌%◌
 ghost use Rattle.tsparql.specs.Writing.{three_bytes};
 ghost use Rattle.blocks.specs.Buffers.{buffer, inserted, appended, reversed, exchanged};
 
+use std::mem::replace;
+
 // The byte v in front of the last block, which stands from a place to the end and moves on by one.
 #[tactic(auto, using(crate::proofs::Moving::inserting))]
 pub fn put(out: &mut [u8], at: usize, end: usize, v: u8) -> usize
@@ -14,10 +16,10 @@ pub fn put(out: &mut [u8], at: usize, end: usize, v: u8) -> usize
     if end < at || out.len() <= end {
         return end;
     }
-    for i in (at..end).rev() {
-        out[i + 1] = out[i];
+    let mut moved = v;
+    for b in out[at..=end].iter_mut() {
+        moved = replace(b, moved);
     }
-    out[at] = v;
     end + 1
 }
 
