@@ -1,92 +1,72 @@
--- The loop that moves a block on by one byte: what it has moved so far (`Moved`), and the buffer at its end. Assumes nothing.
+-- The loop that moves a block on by one byte: what it has moved so far (`Carried`), and the buffer at its end. Assumes nothing.
 use mathlib.Core.Path.{◌≡◌, refl, sym, ap, ◌∙◌}
 use mathlib.Core.Bool as B
-use mathlib.Core.List.{List, ◌∷◌, ◌++◌}
-use Prim.Native.Nat.{ℕ, zero, suc, ◌+◌, ◌-◌, ◌≤◌, ◌<◌}
+use mathlib.Core.List.{List, [], ◌∷◌, ◌++◌, append-nil}
+use Prim.Native.Nat.{ℕ, suc, ◌+◌, ◌-◌, ◌≤◌, ◌<◌}
 use native.Mathlib.Omega.{arith}
 use native.Mathlib.Numerals.{add-one}
-use native.Mathlib.Nat.{le_refl, sub_self}
 use lib.Dec.{leb}
-use lib.ListN.{length, take, drop, get_or, set, length-set, take-append-drop, get_or-append}
-use lib.Seq.{take-suc, drop-cons, set_at, length-take-le, get_or-take, append_snoc}
+use lib.ListN.{length, take, drop, get_or, set, length-drop, drop_of_length-le}
+use lib.Seq.{take-suc, drop-cons, set_at, get_or_at, length-take-le, append_snoc, take-take, drop-drop}
 use borrow.Author.Tests.{lt-leb, le-ltb}
 use Rattle.blocks.specs.Buffers.{Filled, shifted, inserted}
 
--- what stands from i to e has moved on, and the byte at i is still there
-abbrev pub moved : List ℕ → ℕ → ℕ → List ℕ
-moved l i e = take (i + 1) l ++ (take (e - i) (drop i l) ++ drop (e + 1) l)
+-- so many bytes of a part have moved on by one behind v, and the last of them is carried
+pub record Carried (v : ℕ) (part now : List ℕ) (carried k : ℕ) : Type 0 where
+  pub last : carried ≡ get_or (v ∷ part) k 0
+  pub so : now ≡ take k (v ∷ part) ++ drop k part
 
-pub record Moved (l now : List ℕ) (at e i : ℕ) : Type 0 where
-  pub from : at ≤ i
-  pub to : i ≤ e
-  pub room : e < length l
-  pub same : length now ≡ length l
-  pub so : now ≡ moved l i e
+pub carried-none : (v : ℕ) (part : List ℕ) → Carried v part part v 0
+carried-none v part = record { last = refl; so = refl }
 
-pub moved_none : (l : List ℕ) (at e : ℕ) → at ≤ e → e < length l → Moved l l at e e
-moved_none l at e h r =
-    let none : take (e - e) (drop e l) ++ drop (e + 1) l ≡ drop (e + 1) l =
-    ap (λ (n : ℕ). take n (drop e l) ++ drop (e + 1) l) (sub_self e) in
-    record {
-      from = h;
-      to = le_refl e;
-      room = r;
-      same = refl;
-      so = sym (ap (λ (x : List ℕ). take (e + 1) l ++ x) none ∙ take-append-drop (e + 1) l);
-    }
+module _ (v : ℕ) (part now : List ℕ) (carried k : ℕ) (c : Carried v part now carried k) where
+  -- what the loop holds at k, where the byte there has not moved on yet
+  here : k < length part → now ≡ take k (v ∷ part) ++ (get_or part k 0 ∷ drop (suc k) part)
+  here h = c.so ∙ ap (λ (x : List ℕ). take k (v ∷ part) ++ x) (drop-cons part k 0 h)
 
--- a store at the place whose byte is still there
-store : (l r : List ℕ) (i v : ℕ) → i < length l → set (take (i + 1) l ++ r) i v ≡ take i l ++ v ∷ r
-store l r i v h =
-    let front : take (i + 1) l ++ r ≡ take i l ++ get_or l i 0 ∷ r =
-    ap (λ (n : ℕ). take n l ++ r) (add-one i) ∙ ap (λ (t : List ℕ). t ++ r) (take-suc l i 0 h) ∙ append_snoc (take i l) (get_or l i 0) r in
-    ap (λ (t : List ℕ). set t i v) front ∙ set_at (take i l) (get_or l i 0) r v i (length-take-le i l (omega arith))
+  front : k < length part → length (take k (v ∷ part)) ≡ k
+  front h = length-take-le k (v ∷ part) (omega arith)
 
--- the byte before it
-before : (l r : List ℕ) (j : ℕ) → suc j < length l → get_or (take (suc j + 1) l ++ r) j 0 ≡ get_or l j 0
-before l r j h =
-    let k : length (take (suc j + 1) l) ≡ suc j + 1 = length-take-le (suc j + 1) l (omega arith) in
-    get_or-append (take (suc j + 1) l) r 0 j (omega arith) ∙ get_or-take (suc j + 1) l j 0 (omega arith)
+  pub carried-one :
+      (d r : ℕ) → k < length part → d ≡ carried → r ≡ get_or now k 0 → Carried v part (set now k d) r (k + 1)
+  carried-one d r h e q =
+      let x = get_or part k 0 in
+      let rest = drop (suc k) part in
+      let byte : get_or now k 0 ≡ x = ap (λ (l : List ℕ). get_or l k 0) (here h) ∙ get_or_at (take k (v ∷ part)) x rest 0 k (front h) in
+      let written : set now k d ≡ take k (v ∷ part) ++ (d ∷ rest) =
+      ap (λ (l : List ℕ). set l k d) (here h) ∙ set_at (take k (v ∷ part)) x rest d k (front h) in
+      let more : take (suc k) (v ∷ part) ≡ take k (v ∷ part) ++ (d ∷ []) =
+      take-suc (v ∷ part) k 0 (omega arith) ∙ ap (λ (y : ℕ). take k (v ∷ part) ++ (y ∷ [])) (sym (e ∙ c.last)) in
+      record {
+        last = q ∙ byte ∙ ap (λ (n : ℕ). get_or (v ∷ part) n 0) (sym (add-one k));
+        so =
+            written
+            ∙ sym (append_snoc (take k (v ∷ part)) d rest)
+            ∙ ap (λ (y : List ℕ). y ++ rest) (sym more)
+            ∙ ap (λ (n : ℕ). take n (v ∷ part) ++ drop n part) (sym (add-one k));
+      }
 
-next-part : (l : List ℕ) (j e : ℕ) → suc j ≤ e → e < length l → take (e - j) (drop j l) ≡ get_or l j 0 ∷ take (e - suc j) (drop (suc j) l)
-next-part l j e h r =
-    let k : e - j ≡ suc (e - suc j) = omega arith in
-    rw (k, drop-cons l j 0 (omega arith))
+-- ---- the bytes at the end, and the buffer where there is no room
 
-one-back : (l now : List ℕ) (at e j : ℕ) → at ≤ j → Moved l now at e (suc j) → Moved l (set now (suc j) (get_or now j 0)) at e j
-one-back l now at e j h m =
-    let t = m.to in
-    let r = m.room in
-    let R = take (e - suc j) (drop (suc j) l) ++ drop (e + 1) l in
-    let b : get_or now j 0 ≡ get_or l j 0 = ap (λ (x : List ℕ). get_or x j 0) m.so ∙ before l R j (omega arith) in
-    record {
-      from = h;
-      to = omega arith;
-      room = r;
-      same = length-set now (suc j) (get_or now j 0) ∙ m.same;
-      so =
-          ap (λ (x : ℕ). set now (suc j) x) b
-          ∙ ap (λ (x : List ℕ). set x (suc j) (get_or l j 0)) m.so
-          ∙ store l R (suc j) (get_or l j 0) (omega arith)
-          ∙ ap (λ (n : ℕ). take n l ++ get_or l j 0 ∷ R) (sym (add-one j))
-          ∙ ap (λ (x : List ℕ). take (j + 1) l ++ (x ++ drop (e + 1) l)) (sym (next-part l j e (omega arith) r));
-    }
-
-pub moved-one :
-    (l now : List ℕ) (at e i : ℕ) → at < i → Moved l now at e i → Moved l (set now (i - 1 + 1) (get_or now (i - 1) 0)) at e (i - 1)
-moved-one l now at e (zero) h m = absurd (omega arith)
-moved-one l now at e (suc j) h m =
-    let q : suc j - 1 ≡ j = omega arith in
-    rw (q, add-one j) (one-back l now at e j (omega arith) m)
-
-pub moved-last : (l now : List ℕ) (at e i v : ℕ) → i ≤ at → Moved l now at e i → set now at v ≡ shifted l at e v
-moved-last l now at e i v h m =
-    let q : i ≡ at = let f = m.from in omega arith in
-    let t = m.to in
-    let r = m.room in
-    ap (λ (x : List ℕ). set x at v) (m.so ∙ ap (λ (n : ℕ). moved l n e) q) ∙ store l _ at v (omega arith)
-
--- ---- the buffer where there is none
+pub carried-all :
+    (l now : List ℕ) (at e v carried k : ℕ) → at ≤ e → e < length l → length (take (e + 1 - at) (drop at l)) ≤ k
+    → k ≤ length (take (e + 1 - at) (drop at l)) → Carried v (take (e + 1 - at) (drop at l)) now carried k
+    → take at l ++ (now ++ drop (e + 1 - at) (drop at l)) ≡ shifted l at e v
+carried-all l now at e v carried k h r below above c =
+    let D = drop at l in
+    let n : e + 1 - at ≡ suc (e - at) = omega arith in
+    let long : length (take (suc (e - at)) D) ≡ suc (e - at) = length-take-le (suc (e - at)) D (omega (arith, length-drop at l)) in
+    let last : k ≡ suc (e - at) = omega (arith, ap (λ (m : ℕ). length (take m D)) n, long) in
+    let short : length (take (suc (e - at)) D) ≤ suc (e - at) = omega (arith, long) in
+    let none : drop (suc (e - at)) (take (suc (e - at)) D) ≡ [] = drop_of_length-le (take (suc (e - at)) D) short in
+    let all : now ≡ v ∷ take (e - at) D =
+    c.so ∙ ap (λ (m : ℕ). take k (v ∷ take m D) ++ drop k (take m D)) n
+    ∙ ap (λ (m : ℕ). take m (v ∷ take (suc (e - at)) D) ++ drop m (take (suc (e - at)) D)) last
+    ∙ ap (λ (x : List ℕ). (v ∷ take (e - at) (take (suc (e - at)) D)) ++ x) none
+    ∙ append-nil (v ∷ take (e - at) (take (suc (e - at)) D))
+    ∙ ap (λ (x : List ℕ). v ∷ x) (take-take (e - at) (suc (e - at)) D (omega arith)) in
+    let rest : drop (e + 1 - at) D ≡ drop (e + 1) l = drop-drop (e + 1 - at) at l ∙ ap (λ (m : ℕ). drop m l) (omega arith) in
+    rw (all, rest)
 
 pub insert-full : (b : Filled) (at v : ℕ) → length b.bytes ≤ b.end → b ≡ inserted b at v
 unfolding inserted
@@ -96,6 +76,6 @@ pub insert-behind : (b : Filled) (at v : ℕ) → b.end < at → b ≡ inserted 
 unfolding inserted
 insert-behind b at v r = sym (rw (lt-leb at b.end r))
 
-pub ruleset moving = (moved_none, moved-one, moved-last)
+pub ruleset carrying = (carried-none)
 
 pub ruleset inserting = (insert-full, insert-behind)

@@ -7,6 +7,7 @@ ghost use Rattle.tsparql.specs.Writing.{three_bytes};
 ghost use Rattle.blocks.specs.Buffers.{buffer, shifted, inserted, appended, cut, reversed, exchanged};
 
 use std::marker::Model;
+use std::mem::replace;
 
 // Lent bytes, of which the first `len` are in use; past the bytes' end nothing is written.
 #[derive(Drop)]
@@ -24,15 +25,16 @@ impl<'a> Model for Buffer<'a> {
 }
 
 // The byte v at `at`, and those from there to `end` one place on.
-#[tactic(auto, using(crate::proofs::Moving::moving))]
+// Each is carried on by itself, so that the archive needs no memmove.
+#[tactic(auto, using(crate::proofs::Moving::carrying))]
 fn shift(out: &mut [u8], at: usize, end: usize, v: u8)
     requires { (at ≤ end) × (end < length out.old) }
     ensures { out.new ≡ shifted out.old at end v }
 {
-    for i in (at..end).rev() {
-        out[i + 1] = out[i];
+    let mut moved = v;
+    for b in out[at..=end].iter_mut() {
+        moved = replace(b, moved);
     }
-    out[at] = v;
 }
 
 // The bytes from one place up to another, the last one first.

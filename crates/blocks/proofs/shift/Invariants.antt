@@ -1,6 +1,6 @@
--- The loop's invariant: what stands from i to the end has moved on by one. Assumes nothing.
-use Rattle.blocks.proofs.Moving.{Moved}
+-- The loop's invariant: each byte so far has moved on by one (`Carried`). Assumes nothing.
+use Rattle.blocks.proofs.Moving.{Carried}
 use Rattle.blocks.proofs.shift.Given as goal
 
-abbrev pub invariant-loop-i : goal.invariant-loop-i
-invariant-loop-i l = Moved l.initial.out l.out l.at l.end l.i
+abbrev pub invariant-loop-b : goal.invariant-loop-b
+invariant-loop-b l = Carried l.v l.initial.b-items l.b-items l.moved l.b-index
