@@ -8,9 +8,9 @@ use native.Mathlib.Omega.{arith}
 use native.Mathlib.Numerals.{add-one}
 use native.Mathlib.Nat.{le_refl}
 use lib.Dec.{leb}
-use lib.ListN.{length, drop, get_or, drop_of_length-le}
+use lib.ListN.{length, drop, get_or, drop_of_length-le, length-drop}
 use borrow.Author.Tests.{le-leb, lt-leb, leb-true}
-use Rattle.tsparql.proofs.ListLaws.{and_left, and_right, part-drop}
+use Rattle.tsparql.proofs.ListLaws.{and_left, and_right}
 use Rattle.grammar.proofs.Basics.{cond_cases, ahead}
 use Rattle.grammar.specs.Automaton.{Symbol, Kind, token_of, gap, first, in_number, digit, in_gap, fault, after, finish, run}
 use Rattle.scanner.specs.Scans.{digit_value, goes_on, longer_by, number_from, numeral_from}
@@ -71,7 +71,7 @@ module _ (bs : List ℕ) (u v at x i : ℕ) (k : Reading bs u v at x i) where
         split true g q = absurd (cc)
         split false g q = sym (k.same ∙ rw (ahead bs i h, g))
 
-pub ruleset reading = (reading-first, reading-one, reading-stop, reading-end, part-drop)
+pub ruleset reading = (reading-first, reading-one, reading-stop, reading-end, length-drop)
 
 -- ---- what the answer of `number` says
 

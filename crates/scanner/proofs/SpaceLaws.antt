@@ -11,7 +11,7 @@ use native.Mathlib.Omega.{arith}
 use native.Mathlib.Numerals.{add-one}
 use native.Mathlib.Nat.{le_refl}
 use lib.Dec.{eqb}
-use lib.ListN.{length, take, drop, get_or, drop_of_length-le}
+use lib.ListN.{length, drop, get_or, drop_of_length-le, length-drop}
 use borrow.Author.Tests.{eq-eqb, ne_eqb}
 use Rattle.tsparql.proofs.ListLaws.{part-drop}
 use Rattle.grammar.proofs.Basics.{cond_cases, ahead}
@@ -22,18 +22,17 @@ use Rattle.scanner.proofs.RunLaws.{move_at}
 
 -- ---- how many there are
 
-spaces-from : (at : ℕ) (s : List ℕ) → at + prefix_len is_space s ≡ skip_from at s
+pub spaces-from : (at : ℕ) (s : List ℕ) → at + prefix_len is_space s ≡ skip_from at s
 unfolding skip_from
 spaces-from at [] = omega arith
 spaces-from at (b ∷ s) =
     let more = spaces-from (suc at) s in
     cond_cases (λ (n : ℕ). at + n ≡ skip_from at (b ∷ s)) (is_space b) (λ e. rw e (omega arith)) (λ e. rw e (omega arith))
 
--- of the part of a text from a place on
-pub spaces-behind : (s : List ℕ) (at : ℕ) → at + prefix_len is_space (take (length s - at) (drop at s)) ≡ skip_from at (drop at s)
-spaces-behind s at = rw part-drop (spaces-from at (drop at s))
+-- what is left of a text
+pub ruleset resting = (part-drop)
 
-pub ruleset skipping = (spaces-behind, prefix_len-le-length)
+pub ruleset skipping = (spaces-from, prefix_len-le-length, length-drop)
 
 -- ---- what the answer says
 

@@ -20,15 +20,6 @@ fn spaces(text: &[u8]) -> usize
         .count()
 }
 
-// The first place from a place on that holds none.
-#[tactic(auto, using(crate::proofs::SpaceLaws::skipping))]
-pub fn skip(s: &[u8], at: usize) -> usize
-    requires { at ≤ length s.now }
-    ensures { result ≡ skip_from at (drop at s.now) }
-{
-    at + spaces(&s[at..])
-}
-
 // ---- fixed tokens
 
 // How many bytes a text and a word begin with alike.
@@ -47,23 +38,23 @@ fn compare(text: &[u8], word: &[u8]) -> Result<usize, Fault>
     if n < word.len() { Err(Fault(n)) } else { Ok(n) }
 }
 
-// The same of the fixed token with this first byte; a byte that begins no other is a token of its own.
+// The same of the fixed token with the text's first byte; a byte that begins no other is a token of its own.
 #[tactic(auto, unfolding(tsparql::specs::Strikes::ascii))]
-pub fn fixed_token(text: &[u8], first: u8) -> Result<usize, Fault>
-    requires { (0 < length text.now) × (get_or text.now 0 0 ≡ first) }
-    ensures { result ≡ compared (fixed_token first) text.now }
+pub fn fixed_token(text: &[u8]) -> Result<usize, Fault>
+    ensures { result ≡ compared (fixed_token (get_or text.now 0 0)) text.now }
 {
-    match first {
-        b'&' => compare(text, b"&&"),
-        b'|' => compare(text, b"||"),
-        b'O' => compare(text, b"OPTIONAL"),
-        b'U' => compare(text, b"UNION"),
-        b'F' => compare(text, b"FILTER"),
-        b'E' => compare(text, b"ENSURE"),
-        b'B' => compare(text, b"BOUND"),
-        b'T' => compare(text, b"TRUST"),
-        b'A' => compare(text, b"AS"),
-        _ => Ok(1),
+    match text.first() {
+        Some(b'&') => compare(text, b"&&"),
+        Some(b'|') => compare(text, b"||"),
+        Some(b'O') => compare(text, b"OPTIONAL"),
+        Some(b'U') => compare(text, b"UNION"),
+        Some(b'F') => compare(text, b"FILTER"),
+        Some(b'E') => compare(text, b"ENSURE"),
+        Some(b'B') => compare(text, b"BOUND"),
+        Some(b'T') => compare(text, b"TRUST"),
+        Some(b'A') => compare(text, b"AS"),
+        Some(_) => Ok(1),
+        None => Err(Fault(0)),
     }
 }
 
@@ -96,38 +87,74 @@ fn longer(value: u32, b: u8, most: u32) -> Option<u32>
     (0 < value && more <= most).then_some(more)
 }
 
-// The number whose first digits give a value and which goes on at a place, as far as it stays within the greatest.
-#[tactic(auto, using(crate::proofs::NumberLaws::reading))]
-fn number(s: &[u8], at: usize, first: u32, most: u32) -> Numeric
-    requires { (at ≤ length s.now) × (first ≤ most) × (most < 2000000) }
-    ensures { result ≡ number_from most first at (drop at s.now) }
-{
-    let mut value = first;
-    let rest = &s[at..];
-    for (i, b) in rest.iter().enumerate() {
-        let Some(more) = longer(value, *b, most) else {
-            return Numeric {
-                value,
-                next: at + i,
-            };
-        };
-        value = more;
-    }
-    Numeric {
-        value,
-        next: s.len(),
-    }
+// ---- at a place
+
+// A place of a text, up to its end.
+#[derive(Clone, Copy)]
+pub struct Cursor<'a> {
+    pub text: &'a [u8],
+    pub at: usize,
+    pub ghost inside: { at ≤ length text.now },
 }
 
-// A number from l, 0 or 1, to u whose first digit stands at a place.
-#[tactic(auto, using(crate::proofs::NumberLaws::beginning))]
-pub fn numeral(s: &[u8], at: usize, l: u32, u: u32) -> Option<Numeric>
-    requires { (at ≤ length s.now) × (l ≤ 1) × (9 ≤ u) × (u < 2000000) }
-    ensures { result ≡ numeral_from l u at (drop at s.now) }
-{
-    let first = digit_value(*s.get(at)?)?;
-    if first < l {
-        return None;
+impl<'a> Cursor<'a> {
+    // The byte there; 0 at the end.
+    pub fn byte(&self) -> u8
+        ensures { result ≡ get_or self.now.text.now self.now.at 0 }
+    {
+        self.text.get(self.at).copied().unwrap_or(0)
     }
-    Some(number(s, at + 1, first, u))
+
+    // The text from there on.
+    #[tactic(auto, using(crate::proofs::SpaceLaws::resting))]
+    pub fn rest(&self) -> &'a [u8]
+        ensures { result.now ≡ drop self.now.at self.now.text.now }
+    {
+        &self.text[self.at..]
+    }
+
+    // The first place from there on that holds no white space.
+    #[tactic(auto, using(crate::proofs::SpaceLaws::skipping))]
+    pub fn skip(&self) -> usize
+        ensures { result ≡ skip_from self.now.at (drop self.now.at self.now.text.now) }
+    {
+        self.at + spaces(self.rest())
+    }
+
+    // The number whose first digits give a value and which goes on there, as far as it stays within the greatest.
+    #[tactic(auto, using(crate::proofs::NumberLaws::reading))]
+    fn number(&self, first: u32, most: u32) -> Numeric
+        requires { (first ≤ most) × (most < 2000000) }
+        ensures { result ≡ number_from most first self.now.at (drop self.now.at self.now.text.now) }
+    {
+        let mut value = first;
+        for (i, b) in self.rest().iter().enumerate() {
+            let Some(more) = longer(value, *b, most) else {
+                return Numeric {
+                    value,
+                    next: self.at + i,
+                };
+            };
+            value = more;
+        }
+        Numeric {
+            value,
+            next: self.text.len(),
+        }
+    }
+
+    // A number from l, 0 or 1, to u whose first digit stands there.
+    #[tactic(auto, using(crate::proofs::NumberLaws::beginning))]
+    pub fn numeral(&self, l: u32, u: u32) -> Option<Numeric>
+        requires { (l ≤ 1) × (9 ≤ u) × (u < 2000000) }
+        ensures { result ≡ numeral_from l u self.now.at (drop self.now.at self.now.text.now) }
+    {
+        let Cursor { text, at, .. } = *self;
+        let first = digit_value(*text.get(at)?)?;
+        if first < l {
+            return None;
+        }
+        let behind = Cursor { text, at: at + 1 };
+        Some(behind.number(first, u))
+    }
 }
