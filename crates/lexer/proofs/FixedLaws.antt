@@ -4,14 +4,13 @@ use mathlib.Core.Path.{◌≡◌, refl, sym, ap, ◌∙◌, subst⁻¹}
 use mathlib.Core.Bool.{Bool, false, true≢false, ◌&&◌}
 use mathlib.Core.List.{List, ◌∷◌, Memᴰ}
 use mathlib.Core.Option.{Option}
-use Prim.Native.Nat.{ℕ, suc, ◌+◌, ◌-◌, ◌≤◌, ◌<◌}
+use Prim.Native.Nat.{ℕ, suc, ◌+◌, ◌≤◌, ◌<◌}
 use native.Mathlib.Omega.{arith}
 use native.Mathlib.Numerals.{add-one}
 use lib.Dec.{eqb}
-use lib.ListN.{length, take, drop, get_or, length-drop}
-use lib.Seq.{drop-cons}
+use lib.ListN.{length, drop, get_or, length-drop}
+use lib.Seq.{drop-cons, get_or-drop}
 use borrow.Author.Tests.{eq-eqb, ne_eqb}
-use Rattle.tsparql.proofs.ListLaws.{part-drop}
 use Rattle.grammar.specs.Tokens.{mark, is_capital}
 use Rattle.grammar.specs.Automaton.{Symbol, Entry, marks, find, digit, gap, fault, run}
 use Rattle.grammar.proofs.Basics.{cond_cases}
@@ -53,19 +52,20 @@ abbrev Spelling : List ℕ → ℕ → ℕ → Step → Type 0
 Spelling s at production (Ok l) = Spelled s at production l
 Spelling s at production (Err f) = Misspelled s at f.0
 
-module _ (s : List ℕ) (at : ℕ) (k : Result ℕ Fault) (h : at < length s)
-    (e : k ≡ compared (fixed_token (get_or s at 0)) (take (length s - at) (drop at s))) where
-  says : (answer : Result ℕ Fault) → k ≡ answer → Says (fixed_token (get_or s at 0)) (drop at s) answer
-  says answer q = compared-says (fixed_token (get_or s at 0)) (drop at s) k answer (rw part-drop at e) q
+-- the text from a place on begins with the byte there
+pub first_there : (s : List ℕ) (at : ℕ) → get_or (drop at s) 0 0 ≡ get_or s at 0
+first_there s at = get_or-drop at s 0 0 ∙ ap (λ (n : ℕ). get_or s n 0) (omega arith)
 
-  inside : (n : ℕ) → n ≡ common (fixed_token (get_or s at 0)) (drop at s) → at + n ≤ length s
-  inside n q = omega (arith, (common-within (fixed_token (get_or s at 0)) (drop at s)).1, length-drop at s)
+module _ (s : List ℕ) (at : ℕ) (rest : List ℕ) (k : Result ℕ Fault) (h : at ≤ length s) (r : rest ≡ drop at s)
+    (e : k ≡ compared (fixed_token (get_or rest 0 0)) rest) where
+  inside : (n : ℕ) → n ≡ common (fixed_token (get_or rest 0 0)) rest → at + n ≤ length s
+  inside n q = omega (arith, (common-within (fixed_token (get_or rest 0 0)) rest).1, ap length r, length-drop at s)
 
   pub whole-inside : (n : ℕ) → k ≡ Ok n → at + n ≤ length s
-  whole-inside n q = inside n (says (Ok n) q).0
+  whole-inside n q = inside n (compared-says (fixed_token (get_or rest 0 0)) rest k (Ok n) e q).0
 
   pub part-inside : (f : Fault) → k ≡ Err f → at + f.0 ≤ length s
-  part-inside f q = inside f.0 (says (Err f) q).0
+  part-inside f q = inside f.0 (compared-says (fixed_token (get_or rest 0 0)) rest k (Err f) e q).0
 
 word-says : (s : List ℕ) (at p : ℕ) → at < length s → Spelling s at p (word_at p s at)
 word-says s at p h = go (compared token (drop at s)) (compared-says token (drop at s) _ _ refl refl)

@@ -7,4 +7,4 @@ use Rattle.lexer.specs.declared.start.Start.{Start}
 
 -- r is what f gives where a token begins, for the symbol on top
 abbrev pub Begins : (Symbol → Bool → List ℕ → ℕ → Step) → Start → Step → Type 0
-Begins f s r = Gives s.symbol (λ X. f X s.tight s.text.now s.at) r
+Begins f s r = Gives s.symbol (λ X. f X s.tight s.here.text.now s.here.at) r

@@ -12,7 +12,7 @@ ghost use Rattle.lexer.specs.NextToken.{number_at, word_at, variable_at, negativ
 mod start;
 
 use refusals::Fault;
-use scanner::{fixed_token, numeral, skip};
+use scanner::{Cursor, fixed_token};
 use start::Start;
 use words::{FIRST_NEGATIVE, FIRST_NUMBER, FIRST_VARIABLE};
 
@@ -156,17 +156,16 @@ pub struct Lexeme {
 
 // A number from least to most as a token of the kind.
 fn numeric(
-    s: &[u8],
-    at: usize,
+    here: &Cursor,
     least: u32,
     most: u32,
     kind: u32,
     production: u64,
 ) -> Result<Lexeme, Fault>
-    requires { (at ≤ length s.now) × (least ≤ 1) × (9 ≤ most) × (most < 2000000) × (kind ≤ 4194304) }
-    ensures { result ≡ number_at least most kind production s.now at }
+    requires { (least ≤ 1) × (9 ≤ most) × (most < 2000000) × (kind ≤ 4194304) }
+    ensures { result ≡ number_at least most kind production here.now.text.now here.now.at }
 {
-    let number = numeral(s, at, least, most).ok_or(Fault(at))?;
+    let number = here.numeral(least, most).ok_or(Fault(here.at))?;
     Ok(Lexeme {
         word: kind + number.value,
         next: number.next,
@@ -175,13 +174,38 @@ fn numeric(
     })
 }
 
+// A fixed token, by its first byte.
+#[tactic(auto, using(crate::proofs::FixedLaws::first_there))]
+fn spelled(here: &Cursor, production: u64) -> Result<Lexeme, Fault>
+    ensures { result ≡ word_at production here.now.text.now here.now.at }
+{
+    let first = here.byte();
+    match fixed_token(here.rest()) {
+        Ok(len) => Ok(Lexeme {
+            word: u32::from(first),
+            next: here.at + len,
+            tight: first.is_ascii_uppercase(),
+            production,
+        }),
+        Err(fault) => Err(fault.behind(here.at)),
+    }
+}
+
 impl<'a> Start<'a> {
+    // The place behind the first byte.
+    fn behind(&self) -> Cursor<'a>
+        ensures { (result.text.now ≡ self.now.here.text.now) × (result.at ≡ self.now.here.at + 1) }
+    {
+        let Cursor { text, at } = self.here;
+        Cursor { text, at: at + 1 }
+    }
+
     // A token that begins with a question mark.
     fn variable(&self) -> Result<Lexeme, Fault>
         ensures { Begins variable_at self.now result }
     {
-        let production = allowed(self.symbol, b'?').ok_or(Fault(self.at))?;
-        numeric(self.text, self.at + 1, 0, 15, FIRST_VARIABLE, production)
+        let production = allowed(self.symbol, b'?').ok_or(Fault(self.here.at))?;
+        numeric(&self.behind(), 0, 15, FIRST_VARIABLE, production)
     }
 
     // A token that begins with a minus sign.
@@ -189,9 +213,9 @@ impl<'a> Start<'a> {
         ensures { Begins negative_at self.now result }
     {
         if self.tight || self.symbol != BOUND {
-            return Err(Fault(self.at));
+            return Err(Fault(self.here.at));
         }
-        numeric(self.text, self.at + 1, 1, 1000, FIRST_NEGATIVE, 0)
+        numeric(&self.behind(), 1, 1000, FIRST_NEGATIVE, 0)
     }
 
     // A token that begins with a digit.
@@ -199,41 +223,25 @@ impl<'a> Start<'a> {
         ensures { Begins positive_at self.now result }
     {
         if self.tight {
-            return Err(Fault(self.at));
+            return Err(Fault(self.here.at));
         }
         if self.symbol == BOUND {
-            return numeric(self.text, self.at, 0, 1000, FIRST_NUMBER, 0);
+            return numeric(&self.here, 0, 1000, FIRST_NUMBER, 0);
         }
-        let production = allowed(self.symbol, b'0').ok_or(Fault(self.at))?;
-        numeric(self.text, self.at, 1, 1048575, FIRST_NUMBER, production)
-    }
-
-    // A fixed token, by its first byte.
-    fn spelled(&self, production: u64) -> Result<Lexeme, Fault>
-        ensures { result ≡ word_at production self.now.text.now self.now.at }
-    {
-        let first = self.text[self.at];
-        match fixed_token(&self.text[self.at..], first) {
-            Ok(len) => Ok(Lexeme {
-                word: u32::from(first),
-                next: self.at + len,
-                tight: first.is_ascii_uppercase(),
-                production,
-            }),
-            Err(fault) => Err(fault.behind(self.at)),
-        }
+        let production = allowed(self.symbol, b'0').ok_or(Fault(self.here.at))?;
+        numeric(&self.here, 1, 1048575, FIRST_NUMBER, production)
     }
 
     // A token that begins with any other byte. A word may not follow a word, number or variable directly.
     fn fixed(&self) -> Result<Lexeme, Fault>
         ensures { Begins fixed_at self.now result }
     {
-        let first = self.text[self.at];
-        let production = allowed(self.symbol, first).ok_or(Fault(self.at))?;
+        let first = self.here.byte();
+        let production = allowed(self.symbol, first).ok_or(Fault(self.here.at))?;
         if self.tight && first.is_ascii_uppercase() {
-            return Err(Fault(self.at));
+            return Err(Fault(self.here.at));
         }
-        self.spelled(production)
+        spelled(&self.here, production)
     }
 
     // The token, by its first byte.
@@ -241,7 +249,7 @@ impl<'a> Start<'a> {
     fn token(&self) -> Result<Lexeme, Fault>
         ensures { Begins token_at self.now result }
     {
-        match self.text[self.at] {
+        match self.here.byte() {
             b'?' => self.variable(),
             b'-' => self.negative(),
             b'0'..=b'9' => self.positive(),
@@ -252,17 +260,16 @@ impl<'a> Start<'a> {
 
 // The next token, which the symbol on top allows.
 #[tactic(auto, unfolding(crate::specs::NextToken::next_token))]
-fn advance(s: &[u8], at: usize, tight: bool, symbol: u8) -> Result<Lexeme, Fault>
-    requires { at ≤ length s.now }
-    ensures { Gives symbol (λ X. next_token X tight s.now at) result }
+fn advance(here: &Cursor, tight: bool, symbol: u8) -> Result<Lexeme, Fault>
+    ensures { Gives symbol (λ X. next_token X tight here.now.text.now here.now.at) result }
 {
-    let i = skip(s, at);
-    if s.len() <= i {
+    let Cursor { text, at } = *here;
+    let i = here.skip();
+    if text.len() <= i {
         return Err(Fault(i));
     }
     let start = Start {
-        text: s,
-        at: i,
+        here: Cursor { text, at: i },
         tight: tight && at == i,
         symbol,
     };
@@ -298,14 +305,16 @@ pub fn scan(s: &[u8], words: &mut [u32], stack: &mut [u8]) -> Result<usize, Faul
     let mut tight = false;
     let mut count = 0;
     while 0 < depth {
-        let token = advance(s, at, tight, stack[depth - 1])?;
+        let here = Cursor { text: s, at };
+        let token = advance(&here, tight, stack[depth - 1])?;
         words[count] = token.word;
         count += 1;
         depth = push(stack, depth - 1, token.production);
         tight = token.tight;
         at = token.next;
     }
-    let end = skip(s, at);
+    let behind = Cursor { text: s, at };
+    let end = behind.skip();
     if end < s.len() {
         return Err(Fault(end));
     }

@@ -3,12 +3,13 @@
 
 ghost use Rattle.std.specs.Prelude.{◌<◌, length};
 
+use scanner::Cursor;
+
 // Its place in a text, whether a word, number or variable ends there, and the symbol on top of the stack.
 #[derive(Clone, Copy)]
 pub struct Start<'a> {
-    pub text: &'a [u8],
-    pub at: usize,
+    pub here: Cursor<'a>,
     pub tight: bool,
     pub symbol: u8,
-    ghost inside: { at < length text.now },
+    ghost inside: { here.at < length here.text.now },
 }

@@ -7,7 +7,7 @@ use Rattle.lexer.proofs.numeric.Goals as goal
 
 pub overflow_add-result : goal.overflow_add-result
 overflow_add-result c =
-    let a = c.args in
+    let h = c.args.here.now in
     let n = c.in_ok-number.number in
     let found : c.numeral.result ≡ Some n = grind arith in
-    omega (arith, numeral-most a.s.now a.at a.least a.most c.numeral.result (omega arith) (omega arith) c.numeral.ensures n found)
+    omega (arith, numeral-most h.text.now h.at c.args.least c.args.most c.numeral.result h.inside (omega arith) c.numeral.ensures n found)
