@@ -12,8 +12,9 @@ use Rattle.tsparql.proofs.ListLaws.{concat_map-append}
 use Rattle.cells.specs.Words.{word_cell}
 use Rattle.rows.specs.RowWords.{row_in, row_at, rows_in}
 use Rattle.rows.proofs.RowWordLaws.{cell_at-row_in, rows_in-suc}
-use Rattle.text.specs.Writing.{Puts}
-use Rattle.text.proofs.WritingLaws.{puts_then}
+use Rattle.text.specs.declared.Page.{Page}
+use Rattle.text.specs.Writing.{Prints}
+use Rattle.text.proofs.WritingLaws.{prints_then}
 
 -- one number more
 up_from-suc : (i n : ℕ) → up_from i (suc n) ≡ up_from i n ++ ((i + n) ∷ [])
@@ -23,10 +24,10 @@ up_from-suc i (suc n) =
     ap (λ (l : List ℕ). i ∷ l) (up_from-suc (suc i) n ∙ rw e)
 
 -- the text of one element more
-puts-snoc : {A : Type 0} (f : A → List ℕ) (xs : List A) (x : A) {at : ℕ} {out mid out' : List ℕ} {p r : ℕ}
-    → Puts (concat_map f xs) at out mid p → Puts (f x) p mid out' r → Puts (concat_map f (xs ++ (x ∷ []))) at out out' r
-puts-snoc f xs x a b =
-    rw (concat_map-append f xs (x ∷ []), append-nil (f x)) (puts_then a b)
+prints-snoc : {A : Type 0} (f : A → List ℕ) (xs : List A) (x : A) {p q r : Page}
+    → Prints (concat_map f xs) p q → Prints (f x) q r → Prints (concat_map f (xs ++ (x ∷ []))) p r
+prints-snoc f xs x a b =
+    rw (concat_map-append f xs (x ∷ []), append-nil (f x)) (prints_then a b)
 
 -- ---- cells
 
@@ -34,16 +35,16 @@ puts-snoc f xs x a b =
 abbrev pub cells_below : List ℕ → ℕ → List ℕ
 cells_below row n = concat_map (λ v. cell_text v (cell_at (row_in row).cells v)) (up_from 0 n)
 
-pub cells-more : (row : List ℕ) (v : ℕ) {at : ℕ} {out mid out' : List ℕ} {p r : ℕ} → Puts (cells_below row v) at out mid p → v < 16
-    → Puts (cell_text v (word_cell (get_or row v 0))) p mid out' r → Puts (cells_below row (v + 1)) at out out' r
+pub cells-more : (row : List ℕ) (v : ℕ) {p q r : Page} → Prints (cells_below row v) p q → v < 16
+    → Prints (cell_text v (word_cell (get_or row v 0))) q r → Prints (cells_below row (v + 1)) p r
 cells-more row v a h b =
     let e : 0 + v ≡ v = omega arith in
     let more : up_from 0 (v + 1) ≡ up_from 0 v ++ (v ∷ []) = rw add-one (up_from-suc 0 v ∙ rw e) in
-    rw more (puts-snoc (λ u. cell_text u (cell_at (row_in row).cells u)) (up_from 0 v) v a (rw (cell_at-row_in row v h) b))
+    rw more (prints-snoc (λ u. cell_text u (cell_at (row_in row).cells u)) (up_from 0 v) v a (rw (cell_at-row_in row v h) b))
 
 -- ---- rows
 
-pub rows_more : (n : ℕ) (ws : List ℕ) {at : ℕ} {out mid out' : List ℕ} {p r : ℕ}
-    → Puts (concat_map row_line (rows_in n ws)) at out mid p → Puts (row_line (row_at n ws)) p mid out' r
-    → Puts (concat_map row_line (rows_in (n + 1) ws)) at out out' r
-rows_more n ws a b = rw rows_in-suc (puts-snoc row_line (rows_in n ws) (row_at n ws) a b)
+pub rows_more : (n : ℕ) (ws : List ℕ) {p q r : Page}
+    → Prints (concat_map row_line (rows_in n ws)) p q → Prints (row_line (row_at n ws)) q r
+    → Prints (concat_map row_line (rows_in (n + 1) ws)) p r
+rows_more n ws a b = rw rows_in-suc (prints-snoc row_line (rows_in n ws) (row_at n ws) a b)

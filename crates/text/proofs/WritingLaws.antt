@@ -9,7 +9,8 @@ use borrow.Author.Tests.{ltb-true, ltb-false}
 use lib.Dec.{ltb}
 use lib.ListN.{length, take, get_or, set, length-set, length-append}
 use lib.Seq.{sets, length-sets, set_out, take-suc}
-use Rattle.text.specs.Writing.{how_many_fit, Puts}
+use Rattle.text.specs.declared.Page.{Page}
+use Rattle.text.specs.Writing.{how_many_fit, Puts, Prints}
 
 -- ---- stores from a place on
 
@@ -61,7 +62,16 @@ puts_then {xs} {ys} {at} {out} {mid} {out'} {p} {r} a b =
       place = omega (arith, a.place, b.place);
     }
 
+-- ---- a page
+
+pub prints_none : (p : Page) → Prints [] p p
+prints_none p = record { puts = puts_none p.at p.bytes.now; same = refl }
+
+-- a run and then another
+pub prints_then : {xs ys : List ℕ} {p q r : Page} → Prints xs p q → Prints ys q r → Prints (xs ++ ys) p r
+prints_then a b = record { puts = puts_then a.puts b.puts; same = b.same ∙ a.same }
+
 -- one byte more of a text
-pub puts-more : (text : List ℕ) (i : ℕ) {at : ℕ} {out mid out' : List ℕ} {p r : ℕ} → Puts (take i text) at out mid p → i < length text
-    → Puts (get_or text i 0 ∷ []) p mid out' r → Puts (take (i + 1) text) at out out' r
-puts-more text i a h b = rw (add-one i, take-suc text i 0 h) (puts_then a b)
+pub prints-more : (text : List ℕ) (i : ℕ) {p q r : Page} → Prints (take i text) p q → i < length text
+    → Prints (get_or text i 0 ∷ []) q r → Prints (take (i + 1) text) p r
+prints-more text i a h b = rw (add-one i, take-suc text i 0 h) (prints_then a b)

@@ -6,6 +6,7 @@ use Rattle.tsparql.specs.Values.{Row, variables, cell_at}
 use Rattle.tsparql.specs.Check.{no_refusal}
 use Rattle.tsparql.specs.Evaluate.{Evaluated}
 use Rattle.tsparql.specs.Strikes.{cell_text}
+use Rattle.text.specs.declared.Page.{Page}
 
 -- how many of n bytes fit into a buffer of so many from place `at` on
 abbrev pub how_many_fit : ℕ → ℕ → ℕ → ℕ
@@ -15,6 +16,11 @@ how_many_fit n at room = min n (room - at)
 pub record Puts (bytes : List ℕ) (at : ℕ) (out out' : List ℕ) (r : ℕ) : Type 0 where
   pub buffer : out' ≡ sets out at bytes
   pub place : r ≡ at + how_many_fit (length bytes) at (length out)
+
+-- q is p after the bytes were put on it
+pub record Prints (bytes : List ℕ) (p q : Page) : Type 0 where
+  pub puts : Puts bytes p.at p.bytes.now q.bytes.now q.at
+  pub same : q.bytes.ghost_name ≡ p.bytes.ghost_name
 
 -- the text of a row's set variables
 abbrev pub cells_text : Row → List ℕ

@@ -2,8 +2,8 @@
 use Rattle.tsparql.specs.Lists.{concat_map}
 use Rattle.tsparql.specs.Strikes.{row_line}
 use Rattle.rows.specs.RowWords.{rows_in}
-use Rattle.text.specs.Writing.{Puts}
-use Rattle.text.proofs.put_rows.Given as goal
+use Rattle.text.specs.Writing.{Prints}
+use Rattle.text.proofs.Page.put_rows.Given as goal
 
 abbrev pub invariant-loop-i : goal.invariant-loop-i
-invariant-loop-i l = Puts (concat_map row_line (rows_in l.i l.space)) l.at l.initial.out l.out l.place
+invariant-loop-i l = Prints (concat_map row_line (rows_in l.i l.space)) l.initial.self l.self

@@ -1,5 +1,5 @@
 -- The digits of a tenth, then the last digit (decimal_step). The measure is the number. Assumes nothing.
-use Rattle.text.proofs.+put_decimal.Given as goal
+use Rattle.text.proofs.Page.+put_decimal.Given as goal
 
 abbrev pub decreases-put_decimal : goal.decreases-put_decimal
 decreases-put_decimal l = l.n
