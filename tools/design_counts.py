@@ -18,11 +18,20 @@ def sources(commit):
     found = {}
     for name in names.stdout.split("\n"):
         if re.fullmatch(r"crates/\w+/(src/.*\.rt|proofs/.*\.antt)", name):
-            text = subprocess.run(["git", "show", f"{commit}:{name}"], capture_output=True, text=True, check=True).stdout if commit else open(name).read()
+            if commit:
+                text = subprocess.run(["git", "show", f"{commit}:{name}"], capture_output=True, text=True, check=True).stdout
+            else:
+                text = open(name).read()
             found[name] = text
     return found
 
 
+# The comment of a number that stands for none, and the names of what a library has.
+NONE_COMMENT = re.compile(
+    r"\b(\d+|itself|in it) (where|behind)\b.*\b(none|no|not|last|term|another)\b|\bwhere there (is|are) none\b|; 0 ")
+BY_HAND = re.compile(
+    r"(same_|lesser$|greater$|later$|at_least_one$|copy$|wide$|row_number$|is_free$|is_true$|put_decimal$|put_text$|one_more$|cut_at$"
+    r"|capital$)")
 HEAD = re.compile(r"^( *)(?:pub |const |extern \"C\" )*fn (\w+)(?:<[^>]*>)?\(", re.M)
 
 
@@ -91,7 +100,7 @@ def main():
                 put("1 a flag with values beside it", f"{crate}::{m.group(1)}")
         for line in text.split("\n"):
             if re.match(r"\s*//", line):
-                if re.search(r"\b(\d+|itself|in it) (where|behind)\b.*\b(none|no|not|last|term|another)\b|\bwhere there (is|are) none\b|; 0 ", line):
+                if NONE_COMMENT.search(line):
                     put("1 a number that stands for none (its comment)", f"{crate}: {line.strip()[:90]}")
                 continue
             if re.search(r"\bnumber: (u32|\d+|FAULT|NO_ROOM|NO_REFUSAL|_)|\{ number, place \}|\bnumber,$", line):
@@ -102,7 +111,8 @@ def main():
                 put("3 loops by while or loop", where)
                 if re.search(r"^\s*\w+ [+-]= 1;", body, re.M):
                     put("3 of these with an index counted by hand", where)
-            if re.match(r"(same_|lesser$|greater$|later$|at_least_one$|copy$|wide$|row_number$|is_free$|is_true$|put_decimal$|put_text$|one_more$|cut_at$|capital$)", fname) or re.match(r"(a: \w+|self), (b: \w+|other)", ", ".join(params)) and result == "bool":
+            compares = re.match(r"(a: \w+|self), (b: \w+|other)", ", ".join(params)) and result == "bool"
+            if BY_HAND.match(fname) or compares:
                 put("4 equality, order, copies, conversions, printing by hand", where)
             for p in params:
                 if p.endswith(": bool"):
