@@ -80,7 +80,9 @@ fn connective_head(kind: u8, n: u8) -> Result<(ConditionHead, usize), Fault>
     }
 }
 
-// The head of the condition that a part starts with, and the place behind the head's own bytes.
+// The head of the condition that a part starts with, and the place behind the head's own bytes. Each level of a condition reads one, for
+// each row that it is tried on: inlined, since the call takes a quarter of the time.
+#[inline(always)]
 #[tactic(auto, unfolding(crate::specs::Parts::condition_head_read))]
 pub fn read_condition_head(q: &[u8]) -> Result<(ConditionHead, usize), Fault>
     ensures { found result ≡ condition_head_read q.now }

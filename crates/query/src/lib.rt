@@ -19,29 +19,30 @@ use slots::read_pattern;
 // ---- conditions
 
 // The condition that a part starts with, and the place behind its last operand.
+#[cycle(read_condition_read_conditions)]
 pub fn read_condition(q: &[u8]) -> Result<(ConditionHead, usize), Fault>
     ensures { found result ≡ map_read condition_head (read_condition q.now) }
 {
     let (head, own) = read_condition_head(q)?;
-    let mut place = own;
-    for _ in 0..condition_operands(head) {
+    let n = condition_operands(head);
+    let next = read_conditions(q, own, n)?;
+    Ok((head, next))
+}
+
+// The place behind n conditions, one behind the other, from a place on. It answers no head, so that each level of a recursion stays small.
+#[cycle(read_condition_read_conditions)]
+fn read_conditions(q: &[u8], at: usize, n: u8) -> Result<usize, Fault>
+    requires { (1 ≤ at) × (at ≤ length q.now) }
+    ensures { place_found result ≡ conditions_from n at q.now }
+{
+    let mut place = at;
+    for _ in 0..n {
         match read_condition(&q[place..]) {
             Ok((_, k)) => place += k,
             Err(f) => return Err(f.behind(place)),
         }
     }
-    Ok((head, place))
-}
-
-// The place behind the condition that stands at a place.
-fn condition_end(q: &[u8], at: usize) -> Result<usize, Fault>
-    requires { (1 ≤ at) × (at ≤ length q.now) }
-    ensures { place_found result ≡ conditions_from 1 at q.now }
-{
-    match read_condition(&q[at..]) {
-        Ok((_, k)) => Ok(at + k),
-        Err(f) => Err(f.behind(at)),
-    }
+    Ok(place)
 }
 
 // ---- nodes
@@ -78,7 +79,7 @@ fn before_operands(q: &[u8], h: Head, own: usize) -> Result<usize, Fault>
 {
     match h {
         Head::PatternSet(n) => read_patterns(q, own, n),
-        Head::LeftJoin | Head::Filter => condition_end(q, own),
+        Head::LeftJoin | Head::Filter => read_conditions(q, own, 1),
         _ => Ok(own),
     }
 }
@@ -93,18 +94,30 @@ pub fn read_own(q: &[u8]) -> Result<(Head, usize), Fault>
 }
 
 // The node that a part starts with, and the place behind its last operand.
+#[cycle(read_node_read_nodes)]
 pub fn read_node(q: &[u8]) -> Result<(Head, usize), Fault>
     ensures { found result ≡ map_read node_head (read_node q.now) }
 {
-    let (head, own) = read_own(q)?;
-    let mut next = own;
-    for _ in 0..node_operands(head) {
-        match read_node(&q[next..]) {
-            Ok((_, k)) => next += k,
-            Err(fault) => return Err(fault.behind(next)),
+    let (head, at) = read_own(q)?;
+    let n = node_operands(head);
+    let behind = read_nodes(q, at, n)?;
+    Ok((head, behind))
+}
+
+// The place behind n nodes, one behind the other, from a place on.
+#[cycle(read_node_read_nodes)]
+fn read_nodes(q: &[u8], at: usize, n: u8) -> Result<usize, Fault>
+    requires { (1 ≤ at) × (at ≤ length q.now) }
+    ensures { place_found result ≡ nodes_from n at q.now }
+{
+    let mut place = at;
+    for _ in 0..n {
+        match read_node(&q[place..]) {
+            Ok((_, own)) => place += own,
+            Err(fault) => return Err(fault.behind(place)),
         }
     }
-    Ok((head, next))
+    Ok(place)
 }
 
 // The place of the next node in prefix order, or that of a fault before it.
