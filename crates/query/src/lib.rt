@@ -18,7 +18,9 @@ use slots::read_pattern;
 
 // ---- conditions
 
-// The condition that a part starts with, and the place behind its last operand.
+// The condition that a part starts with, and the place behind its last operand. Inlined, as is `read_node`, so that what calls itself
+// answers a place alone, in registers.
+#[inline(always)]
 #[cycle(read_condition_read_conditions)]
 pub fn read_condition(q: &[u8]) -> Result<(ConditionHead, usize), Fault>
     ensures { found result ≡ map_read condition_head (read_condition q.now) }
@@ -29,7 +31,7 @@ pub fn read_condition(q: &[u8]) -> Result<(ConditionHead, usize), Fault>
     Ok((head, next))
 }
 
-// The place behind n conditions, one behind the other, from a place on. It answers no head, so that each level of a recursion stays small.
+// The place behind n conditions, one behind the other, from a place on.
 #[cycle(read_condition_read_conditions)]
 fn read_conditions(q: &[u8], at: usize, n: u8) -> Result<usize, Fault>
     requires { (1 ≤ at) × (at ≤ length q.now) }
@@ -94,6 +96,7 @@ pub fn read_own(q: &[u8]) -> Result<(Head, usize), Fault>
 }
 
 // The node that a part starts with, and the place behind its last operand.
+#[inline(always)]
 #[cycle(read_node_read_nodes)]
 pub fn read_node(q: &[u8]) -> Result<(Head, usize), Fault>
     ensures { found result ≡ map_read node_head (read_node q.now) }
