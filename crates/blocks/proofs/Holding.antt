@@ -53,7 +53,7 @@ inserted-blocks X C D d w i e p q =
     ap (λ (k : ℕ). drop k L) m ∙ drop-append-add X (C ++ d ∷ D) (length C + 1) ∙ drop-append-add C (d ∷ D) 1 in
     rw (a, c, f)
 
-length-shifted : (l : List ℕ) (i e v : ℕ) → i ≤ e → e < length l → length (shifted l i e v) ≡ length l
+pub length-shifted : (l : List ℕ) (i e v : ℕ) → i ≤ e → e < length l → length (shifted l i e v) ≡ length l
 length-shifted l i e v h r =
     let m : length (take i l) ≡ i = length-take-le i l (omega arith) in
     let k : length (take (e - i) (drop i l)) ≡ e - i = length-take-le (e - i) (drop i l) (omega (arith, length-drop i l)) in

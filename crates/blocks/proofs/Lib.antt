@@ -1,3 +1,4 @@
 -- Laws about blocks.
 pub mod Moving
 pub mod Holding
+pub mod Keeping

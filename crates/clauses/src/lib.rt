@@ -2,6 +2,7 @@
 #![tactic(auto)]
 
 ghost use Rattle.std.specs.Prelude.{◌≤◌, ◌<◌, length};
+ghost use Rattle.blocks.specs.Lent.{held, Kept};
 ghost use Rattle.clauses.specs.Clauses.{Operand, Conditions, Connects};
 
 use blocks::Buffer;
@@ -17,7 +18,8 @@ pub struct Clause {
 // The place behind a primary that begins with neither '!' nor '(': BOUND, '=' or '<'.
 fn operand(t: &[u32], i: usize, out: &mut Buffer<'_>) -> usize
     requires { i < length t.now }
-    ensures { Operand t.now i out.old out.new result }
+    ensures writes { Operand t.now i (held out.old) (held out.new) result }
+    ensures kept { Kept out.old out.new }
 {
     let w = word(t, i);
     let op = word(t, i + 1);
@@ -45,7 +47,8 @@ fn operand(t: &[u32], i: usize, out: &mut Buffer<'_>) -> usize
 
 // What follows a primary: '&&', '||', or the closing parenthesis, which is left there.
 fn connect(t: &[u32], out: &mut Buffer<'_>, from: usize, and: usize, next: usize) -> Clause
-    ensures { (next ≤ result.next) × Connects t.now from out.old out.new and next result }
+    ensures writes { (next ≤ result.next) × Connects t.now from (held out.old) (held out.new) and next result }
+    ensures kept { Kept out.old out.new }
 {
     match word(t, next) {
         AND => {
@@ -68,7 +71,8 @@ fn connect(t: &[u32], out: &mut Buffer<'_>, from: usize, and: usize, next: usize
 
 // The condition from behind its opening parenthesis, up to and over its closing one: the place behind it.
 pub fn condition(t: &[u32], at: usize, out: &mut Buffer<'_>) -> usize
-    ensures { (at ≤ result) × Conditions t.now at out.old out.new result }
+    ensures writes { (at ≤ result) × Conditions t.now at (held out.old) (held out.new) result }
+    ensures kept { Kept out.old out.new }
 {
     let from = out.len();
     let mut s = Clause {

@@ -6,6 +6,7 @@ ghost use Rattle.tsparql.specs.Query.{Node};
 ghost use Rattle.tsparql.specs.Writing.{node_bytes, three_bytes};
 ghost use Rattle.grammar.specs.Meaning.{projected, bounded};
 ghost use Rattle.blocks.specs.Buffers.{prepended};
+ghost use Rattle.blocks.specs.Lent.{held, Kept};
 ghost use Rattle.groups.specs.Items.{next_place, Seeks};
 ghost use Rattle.groups.specs.Passes.{Makes, Conjoins, Unfilters, Filters, Splits, bound_in};
 
@@ -52,7 +53,8 @@ fn find_item(t: &Text, at: usize, first: u32) -> Option<usize>
 
 // The projections of the group at a place, around the block behind `from` bytes.
 fn projections(t: &Text, at: usize, out: &mut Buffer<'_>, from: usize)
-    ensures { Makes Node projected node_bytes t.now at from out.old out.new }
+    ensures writes { Makes Node projected node_bytes t.now at from (held out.old) (held out.new) }
+    ensures kept { Kept out.old out.new }
 {
     let mut next = at;
     while let Some(i) = find_item(t, next, TRUST) {
@@ -77,7 +79,8 @@ fn thousandths(w: u32) -> u32
 // The bytes of ensure trust in front of a block.
 fn put4(out: &mut Buffer<'_>, at: usize, x: u32)
     requires { x < 16777216 }
-    ensures { out.new ≡ prepended out.old at (96 ∷ three_bytes x) }
+    ensures writes { held out.new ≡ prepended (held out.old) at (96 ∷ three_bytes x) }
+    ensures kept { Kept out.old out.new }
 {
     let [_, high, middle, low] = x.to_be_bytes();
     out.put(at, low);
@@ -88,7 +91,8 @@ fn put4(out: &mut Buffer<'_>, at: usize, x: u32)
 
 // The bounds of the group at a place, around the block behind `from` bytes.
 fn bounds(t: &Text, at: usize, out: &mut Buffer<'_>, from: usize)
-    ensures { Makes Node bounded node_bytes t.now at from out.old out.new }
+    ensures writes { Makes Node bounded node_bytes t.now at from (held out.old) (held out.new) }
+    ensures kept { Kept out.old out.new }
 {
     let mut next = at;
     while let Some(i) = find_item(t, next, ENSURE) {
@@ -101,7 +105,8 @@ fn bounds(t: &Text, at: usize, out: &mut Buffer<'_>, from: usize)
 
 // The filters of the group at a place, joined by and, behind the end.
 fn conjunction(t: &Text, at: usize, out: &mut Buffer<'_>)
-    ensures { Conjoins t.now at out.old out.new }
+    ensures writes { Conjoins t.now at (held out.old) (held out.new) }
+    ensures kept { Kept out.old out.new }
 {
     let from = out.len();
     let mut next = at;
@@ -116,7 +121,8 @@ fn conjunction(t: &Text, at: usize, out: &mut Buffer<'_>)
 
 // The group at a place without its filters, from what is joined in it.
 fn unfiltered(t: &Text, at: usize, out: &mut Buffer<'_>, from: usize)
-    ensures { Unfilters t.now at from out.old out.new }
+    ensures writes { Unfilters t.now at from (held out.old) (held out.new) }
+    ensures kept { Kept out.old out.new }
 {
     projections(t, at, out, from);
     bounds(t, at, out, from);
@@ -124,7 +130,8 @@ fn unfiltered(t: &Text, at: usize, out: &mut Buffer<'_>, from: usize)
 
 // The same with its filters.
 pub fn filtered(t: &Text, at: usize, out: &mut Buffer<'_>, from: usize)
-    ensures { Filters t.now at from out.old out.new }
+    ensures writes { Filters t.now at from (held out.old) (held out.new) }
+    ensures kept { Kept out.old out.new }
 {
     unfiltered(t, at, out, from);
     let mid = out.len();
@@ -137,13 +144,15 @@ pub fn filtered(t: &Text, at: usize, out: &mut Buffer<'_>, from: usize)
 
 // The group of an OPTIONAL, and behind it the condition of its left join: where that begins.
 pub fn split(t: &Text, at: usize, out: &mut Buffer<'_>, from: usize) -> usize
-    ensures { Splits t.now at from out.old out.new result }
+    ensures writes { Splits t.now at from (held out.old) (held out.new) result }
+    ensures kept { Kept out.old out.new }
 {
     unfiltered(t, at, out, from);
     let mid = out.len();
     conjunction(t, at, out);
-    if out.len() <= mid {
-        out.append(112);
+    if mid < out.len() {
+        return mid;
     }
+    out.append(112);
     mid
 }

@@ -106,13 +106,13 @@ unite-none out mid end h all pre (some u) x e f g room = absurd (omega (arith, n
 -- ---- joined
 
 -- lengths of the blocks
-pub joins-none : (out : Filled) (from mid : ℕ) → out.end ≤ mid → Joins out out from mid
-joins-none out from mid h all pre x y e f g room =
+pub joins-none : (out out' : Filled) (from mid : ℕ) → out.end ≤ mid → Joins out out' from mid
+joins-none out out' from mid h all pre x y e f g room =
     let s = g.size in
     absurd (omega (arith, length-append pre (node_bytes x ++ node_bytes y), length-append (node_bytes x) (node_bytes y), node-large y))
 
-pub joins-none-2 : (out : Filled) (from mid : ℕ) → mid ≤ from → Joins out out from mid
-joins-none-2 out from mid h all pre x y e f g room = absurd (omega (arith, node-large x))
+pub joins-none-2 : (out out' : Filled) (from mid : ℕ) → mid ≤ from → Joins out out' from mid
+joins-none-2 out out' from mid h all pre x y e f g room = absurd (omega (arith, node-large x))
 
 pub joins-right-empty : (out out' : Filled) (from mid : ℕ) → out.end - mid ≡ 1 → out' ≡ cut out mid → Joins out out' from mid
 joins-right-empty out out' from mid q w all pre x y e f g room = go (is_empty_set x) refl (is_empty_set y) refl

@@ -1,12 +1,14 @@
 -- A stage goes on over a triple, in a new set (`triple-new`) or in the last one (`triple-more`). Assumes nothing.
 use mathlib.Core.Path.{◌≡◌, refl, sym, ap, ◌∙◌, subst}
+use mathlib.Core.Bool.{Bool, true, false, true≢false, ◌||◌}
 use mathlib.Core.List.{List, [], ◌∷◌, ◌++◌, append_assoc}
 use mathlib.Core.Logic.{◌⊎◌, inl, inr}
 use mathlib.Core.Option.{none}
-use Prim.Native.Nat.{ℕ, ◌+◌, ◌≤◌, ◌<◌}
+use Prim.Native.Nat.{ℕ, zero, suc, ◌+◌, ◌≤◌, ◌<◌}
 use native.Mathlib.Omega.{arith}
+use lib.Dec.{eqb, leb}
 use lib.ListN.{length, drop, get_or, length-append, length-map}
-use borrow.Author.Tests.{le-leb, eq-eqb, ne_eqb}
+use borrow.Author.Tests.{eqb-true, eqb-false, leb-true, leb-false, le-leb, eq-eqb, ne_eqb}
 use Rattle.tsparql.specs.Query.{Node, Pattern, pattern_set}
 use Rattle.tsparql.specs.Writing.{node_bytes}
 use Rattle.grammar.specs.Tokens.{Token}
@@ -23,6 +25,23 @@ use Rattle.parser.specs.Stages.{Triples}
 use Rattle.parser.specs.declared.Stage.{Stage}
 use Rattle.parser.proofs.SetLaws.{joined-empty, joined-set, before-size, set-size}
 use Rattle.parser.proofs.StageLaws.{follows-longer, none-waits, stage-items, stage-holds}
+
+-- ---- whether a set begins
+
+pub set-begins : (run : ℕ) → (eqb run 0 || leb 15 run) ≡ true → (run ≡ 0) ⊎ (15 ≤ run)
+set-begins run e = go (eqb run 0) refl
+  where
+    go : (b : Bool) → eqb run 0 ≡ b → (run ≡ 0) ⊎ (15 ≤ run)
+    go true p = inl (eqb-true run 0 p)
+    go false p = inr (leb-true 15 run (rw p at e))
+
+pub set-goes-on : (run : ℕ) → (eqb run 0 || leb 15 run) ≡ false → (1 ≤ run) × (run < 15)
+set-goes-on run e = go (eqb run 0) refl run refl
+  where
+    go : (b : Bool) → eqb run 0 ≡ b → (n : ℕ) → n ≡ run → (1 ≤ run) × (run < 15)
+    go true p n q = absurd (true≢false (rw p at e))
+    go false p (zero) q = absurd (eqb-false run 0 p (sym q))
+    go false p (suc n) q = let l = leb-false 15 run (rw p at e) in (omega arith, omega arith)
 
 -- ---- the triple at the front
 

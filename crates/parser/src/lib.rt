@@ -3,8 +3,9 @@
 // Groups: nodes that stand last; triples; a group.
 #![tactic(auto)]
 
-ghost use Rattle.std.specs.Prelude.{◌≡◌, ◌≤◌, ◌<◌, length, get_or};
+ghost use Rattle.std.specs.Prelude.{◌≡◌, ◌||◌, ◌≤◌, ◌<◌, eqb, leb, length, get_or};
 ghost use Rattle.blocks.specs.Buffers.{appended};
+ghost use Rattle.blocks.specs.Lent.{held, Kept};
 ghost use Rattle.parser.specs.Sets.{Unites, Joins, Begins, slot_bytes, Adds};
 ghost use Rattle.parser.specs.Stages.{body_place, Triples, Passes, Closes, Gathers};
 
@@ -16,7 +17,8 @@ use words::{FIRST_NUMBER, FIRST_VARIABLE, LBRACE, OPTIONAL, RBRACE, Text, UNION,
 
 // The node behind `mid`, united with the one from `mid` to `end` where there is one.
 fn unite(out: &mut Buffer<'_>, mid: usize, end: usize)
-    ensures { Unites out.old out.new mid end }
+    ensures writes { Unites (held out.old) (held out.new) mid end }
+    ensures kept { Kept out.old out.new }
 {
     if mid < end {
         out.put(mid, 48);
@@ -25,7 +27,8 @@ fn unite(out: &mut Buffer<'_>, mid: usize, end: usize)
 
 // The nodes from `from` to `mid` and to the end, joined; the empty set, which has one byte, is dropped.
 fn join(out: &mut Buffer<'_>, from: usize, mid: usize)
-    ensures { Joins out.old out.new from mid }
+    ensures writes { Joins (held out.old) (held out.new) from mid }
+    ensures kept { Kept out.old out.new }
 {
     let n = out.len();
     if n <= mid || mid <= from {
@@ -45,7 +48,8 @@ fn join(out: &mut Buffer<'_>, from: usize, mid: usize)
 
 // An empty set, joined to the node behind `from` bytes.
 fn begin(out: &mut Buffer<'_>, from: usize)
-    ensures { Begins out.old out.new from }
+    ensures writes { Begins (held out.old) (held out.new) from }
+    ensures kept { Kept out.old out.new }
 {
     let n = out.len();
     if n <= from || n - from == 1 {
@@ -62,7 +66,8 @@ const VARIABLE_SLOT: u32 = 1048576;
 
 // A slot behind the end.
 fn slot(t: &[u32], i: usize, out: &mut Buffer<'_>)
-    ensures { out.new ≡ appended out.old (slot_bytes (get_or t.now i 0)) }
+    ensures writes { held out.new ≡ appended (held out.old) (slot_bytes (get_or t.now i 0)) }
+    ensures kept { Kept out.old out.new }
 {
     let x = word(t, i);
     let bits = if x < FIRST_NUMBER {
@@ -76,7 +81,8 @@ fn slot(t: &[u32], i: usize, out: &mut Buffer<'_>)
 // A triple into the set of `run` triples that stands last.
 fn add(t: &[u32], i: usize, out: &mut Buffer<'_>, run: usize)
     requires { i < length t.now }
-    ensures { Adds t.now i out.old out.new run }
+    ensures writes { Adds t.now i (held out.old) (held out.new) run }
+    ensures kept { Kept out.old out.new }
 {
     let n = out.len();
     if 14 < run || n <= 9 * run {
@@ -99,37 +105,42 @@ pub struct Stage {
     pub run: usize,
 }
 
+// Whether the next triple begins a set.
+fn begins_set(run: usize) -> bool
+    ensures { result ≡ (eqb run 0 || leb 15 run) }
+{
+    run == 0 || 15 <= run
+}
+
 // The stage behind the triple at `next`, which is added to the last set of fewer than fifteen, or begins one.
 fn triple(t: &[u32], out: &mut Buffer<'_>, from: usize, g: Stage) -> Stage
     requires { g.next < length t.now }
-    ensures { (g.next < result.next) × Triples t.now from out.old out.new g result }
+    ensures writes { (g.next < result.next) × Triples t.now from (held out.old) (held out.new) g result }
+    ensures kept { Kept out.old out.new }
 {
     let i = g.next;
-    match g.run {
-        1..=14 => {
-            add(t, i, out, g.run);
-            Stage {
-                next: i + 3,
-                mid: out.len(),
-                run: g.run + 1,
-            }
-        }
-        _ => {
-            begin(out, from);
-            add(t, i, out, 0);
-            Stage {
-                next: i + 3,
-                mid: out.len(),
-                run: 1,
-            }
-        }
+    if begins_set(g.run) {
+        begin(out, from);
+        add(t, i, out, 0);
+        return Stage {
+            next: i + 3,
+            mid: out.len(),
+            run: 1,
+        };
+    }
+    add(t, i, out, g.run);
+    Stage {
+        next: i + 3,
+        mid: out.len(),
+        run: g.run + 1,
     }
 }
 
 // The stage behind an item without braces, or a dot.
 fn pass(t: &Text, out: &mut Buffer<'_>, from: usize, g: Stage) -> Stage
     requires { g.next < length t.now }
-    ensures { (g.next < result.next) × Passes t.now from out.old out.new g result }
+    ensures writes { (g.next < result.next) × Passes t.now from (held out.old) (held out.new) g result }
+    ensures kept { Kept out.old out.new }
 {
     if FIRST_VARIABLE <= t.word(g.next) {
         return triple(t.words(), out, from, g);
@@ -150,7 +161,8 @@ fn close(
     end: usize,
     next: usize,
 ) -> Stage
-    ensures { (next ≤ result.next) × Closes t.now a from out.old out.new g end next result }
+    ensures writes { (next ≤ result.next) × Closes t.now a from (held out.old) (held out.new) g end next result }
+    ensures kept { Kept out.old out.new }
 {
     if t.word(g.next) == OPTIONAL {
         let condition = split(t, a, out, end);
@@ -193,7 +205,8 @@ fn body_place(t: &Text, i: usize) -> Option<usize>
 
 // What is joined in the group whose body begins at a place, behind the end: the place behind the closing brace.
 pub fn gather(t: &Text, at: usize, out: &mut Buffer<'_>) -> usize
-    ensures { (at ≤ result) × Gathers t.now at out.old out.new result }
+    ensures writes { (at ≤ result) × Gathers t.now at (held out.old) (held out.new) result }
+    ensures kept { Kept out.old out.new }
 {
     let from = out.len();
     out.append(0);

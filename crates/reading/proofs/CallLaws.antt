@@ -44,3 +44,6 @@ pub call-tokens :
 call-tokens s out out' ws n r h t writes =
     let d = derives-read s t.0 t.1 in
     writes d.0 (t.2 ∙ ap words (sym d.1)) ∙ sym (call-derived s out d.0 h d.2)
+
+-- what `read_text` cites
+pub ruleset long_texts = (call_long)

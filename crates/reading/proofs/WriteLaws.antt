@@ -27,5 +27,4 @@ renders t out out₁ out₂ next none gather filter q e room =
     let long₁ = length-map (tokens q) token_word in
     let long₂ = length-map (body_tokens q []) token_word in
     let h = gather all q [] [] on start (omega (arith, ap length on)) in
-    let held = filter all q [] [] on refl h.1 (omega arith) in
-    held.front
+    filter all q [] [] on refl h.1 (omega arith)

@@ -2,6 +2,7 @@
 #![tactic(auto)]
 
 ghost use Rattle.std.specs.Prelude.{◌≡◌, ◌≤◌, length};
+ghost use Rattle.blocks.specs.Lent.{held, Kept};
 ghost use Rattle.grammar.specs.ReadText.{read_text};
 ghost use Rattle.refusals.specs.Refusals.{written_in};
 ghost use Rattle.reading.specs.Answers.{delivered, Renders, Writes};
@@ -18,8 +19,9 @@ const TEXT_LIMIT: usize = 4096;
 
 // The query's bytes, at the front of an empty buffer.
 fn render(t: &Text, out: &mut Buffer<'_>)
-    requires { out.old.end ≡ 0 }
-    ensures { Renders t.now out.old out.new }
+    requires { out.old.len ≡ 0 }
+    ensures writes { Renders t.now (held out.old) (held out.new) }
+    ensures kept { Kept out.old out.new }
 {
     gather(t, 1, out);
     filtered(t, 1, out, 0);
@@ -53,6 +55,7 @@ fn write(words: &[u32], output: &mut [u8]) -> Result<usize, Refused>
 }
 
 // The query bytes of a text at the front of the output: refusals 11 and 12.
+#[tactic(auto, using(crate::proofs::CallLaws::long_texts))]
 pub fn read_text(text: &[u8], output: &mut [u8]) -> Result<usize, Refused>
     ensures { written_in result output.new ≡ read_text text.now output.old }
 {

@@ -6,6 +6,8 @@ use mathlib.Core.List.{List, [], ◌∷◌}
 use Prim.Native.Nat.{ℕ, zero, suc, ◌+◌, ◌-◌, ◌≤◌, ◌<◌}
 use native.Mathlib.Omega.{arith}
 use native.Mathlib.Nat.{le_refl, sub_self}
+use mir.Syntax.{w16}
+use mir.Val.{Fits}
 use lib.Dec.{ltb}
 use lib.ListN.{length, drop, get_or, set, length-set, length-drop}
 use lib.Seq.{drop-drop, drop-length, get_or-set_same, get_or-set_other}
@@ -190,10 +192,19 @@ linking-first t ends h =
 pub linked-within : (t ends : List ℕ) (at : ℕ) → at ≤ length t → Linked t ends → get_or ends at 0 ≤ length t
 linked-within t ends at h l = subst⁻¹ (λ (n : ℕ). n ≤ length t) (l.links at (omega arith) h) (place-closed t at h).to
 
+-- a text is no longer than the greatest end
+pub linked-few : (t ends : List ℕ) → Linked t ends → ((i : ℕ) → Fits w16 (get_or ends i 0)) → length t ≤ 65535
+linked-few t ends l small =
+    let n = length t in
+    omega (arith, (place-closed t n (le_refl n)).from, l.links n (omega arith) (le_refl n), (small n).fits)
+
 -- behind the last word
 pub closing-none : (t : List ℕ) (at : ℕ) → length t < at → at ≡ closing t at
 unfolding closing
 closing-none t at h = omega (arith, length-drop at t)
+
+-- what `linked` cites
+pub ruleset few = (linked-few)
 
 -- what `behind` cites
 pub ruleset places = (linked-within, closing-none)

@@ -103,13 +103,22 @@ impl<'a> Model for Text<'a> {
 }
 
 impl<'a> Text<'a> {
+    // The words, of which `link` has written the ends.
+    #[tactic(auto, using(crate::proofs::LinkLaws::few))]
+    pub fn linked(words: &'a [u32], ends: &'a [u16]) -> Text<'a>
+        requires { Linked words.now ends.now }
+        ensures { result ≡ words.now }
+    {
+        Text { slice: words, ends }
+    }
+
     // The words, linked into an array of ends.
     pub fn new(words: &'a [u32], ends: &'a mut [u16]) -> Text<'a>
         requires { (length words.now ≤ 65535) × (length words.now < length ends.old) }
         ensures { result ≡ words.now }
     {
         link(words, ends);
-        Text { slice: words, ends }
+        Text::linked(words, ends)
     }
 
     pub fn words(&self) -> &'a [u32]

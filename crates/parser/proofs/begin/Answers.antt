@@ -5,13 +5,13 @@ use Rattle.parser.proofs.SetLaws.{begins-none, begins-empty, begins-full}
 use Rattle.parser.proofs.begin.Goals as goal
 use Rattle.parser.proofs.begin.Goals.{then-n-from-via-then-n-from, then-n-from-via-else-n-from+then-n-from-eq1}
 
-pub returns-then-n-from : goal.returns-then-n-from
-returns-then-n-from c =
+pub returns-then-n-from-clause-writes : goal.returns-then-n-from-clause-writes
+returns-then-n-from-clause-writes c =
     elim c.then-n-from.branch [
       | then-n-from-via-then-n-from w ↦ begins-none _ _ (omega arith)
       | then-n-from-via-else-n-from+then-n-from-eq1 w ↦ begins-empty _ _ (omega arith)
     ]
 
-pub returns : goal.returns
-returns c =
-    begins-full _ _ _ _ (λ e. omega arith) (appends _ c.append.ensures) (puts _ c.put.ensures)
+pub returns-clause-writes : goal.returns-clause-writes
+returns-clause-writes c =
+    begins-full _ _ _ _ (λ e. omega arith) (appends _ c.append.ensures.holds) (puts _ c.put.ensures.holds)

@@ -1,25 +1,21 @@
--- By whether the triple goes into the last set. Assumes nothing.
-use mathlib.Core.Path.{◌≡◌}
-use mathlib.Core.Logic.{◌⊎◌, inl, inr}
-use Prim.Native.Nat.{◌≤◌}
+-- By whether the triple begins a set. Assumes nothing.
+use mathlib.Core.Path.{sym, ◌∙◌}
 use native.Mathlib.Omega.{arith}
-use Rattle.parser.proofs.TripleLaws.{triple-new, triple-more}
+use Rattle.parser.proofs.TripleLaws.{set-begins, set-goes-on, triple-new, triple-more}
 use Rattle.parser.proofs.triple.Goals as goal
-use Rattle.parser.proofs.triple.Goals.{in_default-via-then-g-lt1, in_default-via-else-g-lt1+else-g-lt15}
 
-pub returns-in-1-to-14 : goal.returns-in-1-to-14
-returns-in-1-to-14 c =
-    let a = c.args in (
+pub returns-then-begins_set-clause-writes : goal.returns-then-begins_set-clause-writes
+returns-then-begins_set-clause-writes c =
+    let a = c.args in
+    let first = set-begins a.g.run (sym c.begins_set.ensures ∙ c.if-begins_set.true) in (
       omega arith,
-      triple-more a.t.now _ _ a.from _ a.g (omega arith) (omega arith) c.add.ensures c.len.ensures,
+      triple-new a.t.now _ _ _ a.from _ a.g first c.begin.ensures.writes c.add.ensures.writes c.len.ensures,
     )
 
-pub returns-in_default : goal.returns-in_default
-returns-in_default c =
+pub returns-clause-writes : goal.returns-clause-writes
+returns-clause-writes c =
     let a = c.args in
-    let new : (a.g.run ≡ 0) ⊎ (15 ≤ a.g.run) =
-    elim c.in_default.branch
-    [ in_default-via-then-g-lt1 w ↦ inl (omega arith) | in_default-via-else-g-lt1+else-g-lt15 w ↦ inr (omega arith) ] in (
+    let on = set-goes-on a.g.run (sym c.begins_set.ensures ∙ c.if-begins_set.false) in (
       omega arith,
-      triple-new a.t.now _ _ _ a.from _ a.g new c.begin.ensures c.add-in_default.ensures c.len-in_default.ensures,
+      triple-more a.t.now _ _ a.from _ a.g on.0 on.1 c.add-2.ensures.writes c.len-2.ensures,
     )

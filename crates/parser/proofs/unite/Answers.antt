@@ -4,8 +4,8 @@ use Rattle.parser.proofs.SetLaws.{unite-some, unite-none}
 use borrow.Author.Rules.{rules}
 use Rattle.parser.proofs.unite.Goals as goal
 
-pub returns-then-mid-end : goal.returns-then-mid-end
-returns-then-mid-end c = unite-some _ _ _ _ c.if-mid-end.true (puts _ c.put.ensures)
+pub returns-then-mid-end-clause-writes : goal.returns-then-mid-end-clause-writes
+returns-then-mid-end-clause-writes c = unite-some _ _ _ _ c.if-mid-end.true (puts _ c.put.ensures.holds)
 
-pub returns-else-mid-end : goal.returns-else-mid-end
-returns-else-mid-end c = unite-none _ _ _ (search rules)
+pub returns-else-mid-end-clause-writes : goal.returns-else-mid-end-clause-writes
+returns-else-mid-end-clause-writes c = unite-none _ _ _ (search rules)

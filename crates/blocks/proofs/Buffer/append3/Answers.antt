@@ -8,6 +8,7 @@ use Prim.Native.Nat.{ℕ, ◌/◌, ◌%◌}
 use native.Mathlib.Omega.{arith}
 use Rattle.tsparql.specs.Writing.{three_bytes}
 use Rattle.blocks.specs.Buffers.{appended}
+use Rattle.blocks.specs.Lent.{held}
 use Rattle.blocks.proofs.Holding.{appended-on}
 use Rattle.blocks.proofs.Buffer.append3.Goals as goal
 
@@ -19,8 +20,8 @@ low-bytes x bs e =
     let r : x % 256 ≡ x % 2097152 % 256 = omega arith in
     rw e (rw (p, q, r))
 
-pub returns : goal.returns
-returns c =
-    let b = c.args.self.now in
-    appended-on _ _ b (appended-on _ _ b c.append.ensures c.append-2.ensures) c.append-3.ensures
+pub returns-clause-holds : goal.returns-clause-holds
+returns-clause-holds c =
+    let b = held c.args.self.now in
+    appended-on _ _ b (appended-on _ _ b c.append.ensures.holds c.append-2.ensures.holds) c.append-3.ensures.holds
     ∙ ap (appended b) (low-bytes c.args.x c.to_be_bytes.result c.to_be_bytes.ensures)
