@@ -20,14 +20,14 @@ returns-in_err-head t c =
     let p = err_from_is_err_and c.from_residual.result c.from_residual.ensures.1 in
     rw (p.1, p.2) (judges-fault refl (head-fault c.args.q.now (sym c.in_err-head.ensures)))
 
-pub leaf_truth-requires : goal.leaf_truth-requires
-leaf_truth-requires t c = (head-formed c.args.q.now _ _ (sym c.in_ok-head.ensures), c.requires)
+pub head_truth-requires : goal.head_truth-requires
+head_truth-requires t c = (head-formed c.args.q.now _ _ (sym c.in_ok-head.ensures), c.requires)
 
 pub returns-then-n-eq0 : goal.returns-then-n-eq0
 returns-then-n-eq0 t c =
     let cells = (row_at 0 c.args.row.now).cells in
     let none = sym c.condition_operands-n.ensures ∙ c.if-n-eq0.true in
-    judges-truth (head_truth cells c.in_ok-head.head holds holds) c.leaf_truth.ensures
+    judges-truth (head_truth cells c.in_ok-head.head holds holds) c.head_truth.ensures
     (none-judged _ _ _ _ _ _ (sym c.in_ok-head.ensures) none)
 
 -- ---- the first operand
@@ -79,7 +79,7 @@ returns-then-n-eq1 t c =
     let one = sym c.condition_operands-n.ensures ∙ c.if-n-eq1.true in
     let first = on-part (λ p. map_read (truth_on cells) (read_condition p)) s c.in_ok-head.own c.in-Ok.ensures.found in
     let u = truth_in c.in-Ok.first.0 in
-    judges-truth (head_truth cells c.in_ok-head.head u u) c.head_truth.ensures
+    judges-truth (head_truth cells c.in_ok-head.head u u) c.head_truth-then-n-eq1.ensures
     (one-judged _ _ _ _ _ _ _ (sym c.in_ok-head.ensures) one first)
 
 -- ---- the second operand
