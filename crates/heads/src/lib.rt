@@ -5,6 +5,7 @@
 
 ghost use Rattle.std.specs.Prelude.{◌≡◌};
 ghost use Rattle.refusals.specs.Reads.{found};
+ghost use Rattle.heads.specs.Answers.{fault_in};
 ghost use Rattle.heads.specs.Parts.{pair_head, term_head, connective, condition_head_read, condition_operands};
 ghost use Rattle.heads.specs.Parts.{bounds_head, plain_head, node_head_read, node_operands};
 
@@ -112,6 +113,16 @@ pub fn condition_operands(h: ConditionHead) -> u8
     }
 }
 
+// The place of a fault, for a caller that asks for that alone; 0 where there is none.
+pub fn condition_fault(r: Result<(ConditionHead, usize), Fault>) -> usize
+    ensures { result ≡ fault_in (found r) }
+{
+    match r {
+        Ok((_, _)) => 0,
+        Err(f) => f.0,
+    }
+}
+
 // ---- nodes
 
 // Ensure trust: n must be 0, and two bounds follow.
@@ -173,5 +184,15 @@ pub fn node_operands(h: Head) -> u8
         Head::PatternSet(_) => 0,
         Head::Join | Head::LeftJoin | Head::Union => 2,
         Head::Filter | Head::ProjectTrust(_) | Head::EnsureTrust(_, _) => 1,
+    }
+}
+
+// The same of a node.
+pub fn node_fault(r: Result<(Head, usize), Fault>) -> usize
+    ensures { result ≡ fault_in (found r) }
+{
+    match r {
+        Ok(_) => 0,
+        Err(fault) => fault.0,
     }
 }
