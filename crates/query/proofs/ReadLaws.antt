@@ -1,5 +1,5 @@
 -- Laws of places: a part of a slice is what drop leaves; what was read, by what was made of it; a number by its cases; what is read in
--- parts; operands one behind the other; places inside. Assumes nothing.
+-- parts; operands one behind the other; places inside; a walk over operands. Assumes nothing.
 use mathlib.Core.Path.{◌≡◌, refl, sym, ap, subst, ◌∙◌}
 use mathlib.Core.Bool.{Bool, true, false, cond}
 use mathlib.Core.List.{List}
@@ -132,3 +132,44 @@ pub place-part : {A B : Type 0} (f : A → B) (read : List ℕ → Read A) → (
 place-part f read inside s at r e l =
     let here : r ≡ map_read f (read (drop at s)) = e ∙ rw (part-drop s at) in
     rw (here, place_of-map f (read (drop at s))) (omega (arith, inside (drop at s), length-drop at s))
+
+-- ---- a walk over operands
+
+-- of n operands from a place on c are passed, and the others begin at `place`, in the part and not at its front
+pub record OperandsPassed (from : ℕ → ℕ → List ℕ → Read (Unit {0})) (s : List ℕ) (n at c place : ℕ) : Type 0 where
+  pub left : from n at s ≡ from (n - c) place s
+  pub some : 1 ≤ place
+  pub inside : place ≤ length s
+
+module _ {from : ℕ → ℕ → List ℕ → Read (Unit {0})} {s : List ℕ} {n at c place : ℕ} (w : OperandsPassed from s n at c place) where
+  -- none is left
+  pub operands-over : ((s : List ℕ) (at : ℕ) → from 0 at s ≡ got tt at) → n ≤ c → got tt place ≡ from n at s
+  operands-over none l =
+      let all : n - c ≡ 0 = omega arith in
+      sym (w.left ∙ ap (λ m. from m place s) all ∙ none s place)
+
+  module _ {A B : Type 0} (f : A → B) (read : List ℕ → Read A) where
+    -- the next one, read of the part from there on
+    abbrev Next : Read B → Type 0
+    Next r = r ≡ map_read f (read (take (length s - place) (drop place s)))
+
+    -- it faults, and so do all
+    pub operand-faults :
+        ((s : List ℕ) (n at p : ℕ) → 1 ≤ n → map_read f (read (drop at s)) ≡ fault p → from n at s ≡ fault (at + p))
+        → (p : ℕ) → c < n → Next (fault p) → fault (place + p) ≡ from n at s
+    operand-faults faults p l e =
+        sym (w.left ∙ faults s (n - c) place p (omega arith) (on-part (λ q. map_read f (read q)) s place e))
+
+    -- it is passed
+    pub operand-passed :
+        ((s : List ℕ) (n at k : ℕ) (h : B) → 1 ≤ n → map_read f (read (drop at s)) ≡ got h k → from n at s ≡ from (n - 1) (at + k) s)
+        → ((s : List ℕ) → place_of (read s) ≤ length s)
+        → (h : B) (k : ℕ) → c < n → Next (got h k) → OperandsPassed from s n at (c + 1) (place + k)
+    operand-passed next sound h k l e =
+        let here = on-part (λ q. map_read f (read q)) s place e in
+        let fewer : n - c - 1 ≡ n - (c + 1) = omega arith in
+        record {
+          left = w.left ∙ next s (n - c) place k h (omega arith) here ∙ ap (λ m. from m (place + k) s) fewer;
+          some = omega (arith, w.some);
+          inside = place-part f read sound s place (got h k) e w.inside;
+        }

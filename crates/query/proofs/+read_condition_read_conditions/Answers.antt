@@ -1,10 +1,10 @@
--- The answers are put together by the laws of ConditionParts. Assumes nothing.
-use Rattle.std.proofs.Common.{◌≡◌, sym, ap, ◌∙◌, ◌+◌, ◌-◌, arith}
+-- The answers are put together by the laws of ConditionParts and of a walk over operands (ReadLaws). Assumes nothing.
+use Rattle.std.proofs.Common.{sym, ap, ◌∙◌, arith}
 use Rattle.std.proofs.lemmas.Result.{err_from_is_err_and}
 use Rattle.tsparql.specs.Reading.{fault, read_condition}
 use Rattle.query.specs.Answers.{condition_head}
-use Rattle.query.specs.Parts.{map_read, conditions_from}
-use Rattle.query.proofs.ReadLaws.{on-part, head-fault, operands-fault, operands-got, place-part}
+use Rattle.query.specs.Parts.{conditions_from}
+use Rattle.query.proofs.ReadLaws.{head-fault, operands-fault, operands-got, place-part, operand-faults, operand-passed, operands-over}
 use Rattle.query.proofs.ConditionParts.{conditions_after, condition-parts, condition-inside}
 use Rattle.query.proofs.ConditionParts.{condition-head-inside, conditions-fault, conditions-next, conditions-none}
 use Rattle.query.proofs.+read_condition_read_conditions.Goals as goal
@@ -35,39 +35,22 @@ read_condition-returns t c =
 
 pub read_conditions-overflow_add-place : goal.read_conditions-overflow_add-place
 read_conditions-overflow_add-place t c =
-    omega (arith, place-part condition_head read_condition condition-inside c.args.q.now c.loop.place _ c.in-Ok.ensures c.loop.invariant.inside)
+    let passed = c.loop.invariant.inside in
+    omega (arith, place-part condition_head read_condition condition-inside c.args.q.now c.loop.place _ c.in-Ok.ensures passed)
 
 pub read_conditions-behind-requires : goal.read_conditions-behind-requires
 read_conditions-behind-requires t c =
-    omega (arith, place-part condition_head read_condition condition-inside c.args.q.now c.loop.place _ c.in-Err.ensures c.loop.invariant.inside)
+    let passed = c.loop.invariant.inside in
+    omega (arith, place-part condition_head read_condition condition-inside c.args.q.now c.loop.place _ c.in-Err.ensures passed)
 
 pub read_conditions-returns-in-Err : goal.read_conditions-returns-in-Err
 read_conditions-returns-in-Err t c =
-    let s = c.args.q.now in
-    let turn = c.loop in
-    let here = on-part (λ p. map_read condition_head (read_condition p)) s turn.place c.in-Err.ensures in
     ap fault c.behind.ensures
-    ∙ sym (turn.invariant.left ∙ conditions-fault s (c.args.n - turn.counter) turn.place _ (omega (arith, c.loop-test.true)) here)
+    ∙ operand-faults c.loop.invariant condition_head read_condition conditions-fault _ c.loop-test.true c.in-Err.ensures
 
 pub read_conditions-loop-preserved : goal.read_conditions-loop-preserved
 read_conditions-loop-preserved t c =
-    let s = c.args.q.now in
-    let turn = c.loop in
-    let left = c.args.n - turn.counter in
-    let here = on-part (λ p. map_read condition_head (read_condition p)) s turn.place c.in-Ok.ensures in
-    let inside = place-part condition_head read_condition condition-inside s turn.place _ c.in-Ok.ensures turn.invariant.inside in
-    let fewer : left - 1 ≡ c.args.n - (turn.counter + 1) = omega arith in
-    record {
-      left =
-          turn.invariant.left ∙ conditions-next s left turn.place _ _ (omega (arith, c.loop-test.true)) here
-          ∙ ap (λ n. conditions_from n (turn.place + c.in-Ok.k) s) fewer;
-      some = omega (arith, turn.invariant.some);
-      inside = omega (arith, inside);
-    }
+    operand-passed c.loop.invariant condition_head read_condition conditions-next condition-inside _ _ c.loop-test.true c.in-Ok.ensures
 
 pub read_conditions-returns : goal.read_conditions-returns
-read_conditions-returns t c =
-    let s = c.args.q.now in
-    let turn = c.loop in
-    let all : c.args.n - turn.counter ≡ 0 = omega (arith, c.loop-test.false) in
-    sym (turn.invariant.left ∙ ap (λ n. conditions_from n turn.place s) all ∙ conditions-none s turn.place)
+read_conditions-returns t c = operands-over c.loop.invariant conditions-none (omega (arith, c.loop-test.false))

@@ -1,10 +1,10 @@
--- The answers are put together by the laws of NodeParts. Assumes nothing.
-use Rattle.std.proofs.Common.{◌≡◌, sym, ap, ◌∙◌, ◌+◌, ◌-◌, arith}
+-- The answers are put together by the laws of NodeParts and of a walk over operands (ReadLaws). Assumes nothing.
+use Rattle.std.proofs.Common.{sym, ap, ◌∙◌, arith}
 use Rattle.std.proofs.lemmas.Result.{err_from_is_err_and}
 use Rattle.tsparql.specs.Reading.{fault, read_node}
 use Rattle.query.specs.Answers.{node_head}
-use Rattle.query.specs.Parts.{map_read, nodes_from}
-use Rattle.query.proofs.ReadLaws.{on-part, head-fault, operands-fault, operands-got, place-part}
+use Rattle.query.specs.Parts.{nodes_from}
+use Rattle.query.proofs.ReadLaws.{head-fault, operands-fault, operands-got, place-part, operand-faults, operand-passed, operands-over}
 use Rattle.query.proofs.NodeParts.{operands_from, node-parts, node-inside}
 use Rattle.query.proofs.NodeParts.{own-inside, nodes-fault, nodes-next, nodes-none}
 use Rattle.query.proofs.+read_node_read_nodes.Goals as goal
@@ -35,39 +35,22 @@ read_node-returns t c =
 
 pub read_nodes-overflow_add-place : goal.read_nodes-overflow_add-place
 read_nodes-overflow_add-place t c =
-    omega (arith, place-part node_head read_node node-inside c.args.q.now c.loop.place _ c.in-Ok.ensures c.loop.invariant.inside)
+    let passed = c.loop.invariant.inside in
+    omega (arith, place-part node_head read_node node-inside c.args.q.now c.loop.place _ c.in-Ok.ensures passed)
 
 pub read_nodes-behind-requires : goal.read_nodes-behind-requires
 read_nodes-behind-requires t c =
-    omega (arith, place-part node_head read_node node-inside c.args.q.now c.loop.place _ c.in-Err.ensures c.loop.invariant.inside)
+    let passed = c.loop.invariant.inside in
+    omega (arith, place-part node_head read_node node-inside c.args.q.now c.loop.place _ c.in-Err.ensures passed)
 
 pub read_nodes-returns-in-Err : goal.read_nodes-returns-in-Err
 read_nodes-returns-in-Err t c =
-    let s = c.args.q.now in
-    let turn = c.loop in
-    let here = on-part (λ p. map_read node_head (read_node p)) s turn.place c.in-Err.ensures in
     ap fault c.behind.ensures
-    ∙ sym (turn.invariant.left ∙ nodes-fault s (c.args.n - turn.counter) turn.place _ (omega (arith, c.loop-test.true)) here)
+    ∙ operand-faults c.loop.invariant node_head read_node nodes-fault _ c.loop-test.true c.in-Err.ensures
 
 pub read_nodes-loop-preserved : goal.read_nodes-loop-preserved
 read_nodes-loop-preserved t c =
-    let s = c.args.q.now in
-    let turn = c.loop in
-    let left = c.args.n - turn.counter in
-    let here = on-part (λ p. map_read node_head (read_node p)) s turn.place c.in-Ok.ensures in
-    let inside = place-part node_head read_node node-inside s turn.place _ c.in-Ok.ensures turn.invariant.inside in
-    let fewer : left - 1 ≡ c.args.n - (turn.counter + 1) = omega arith in
-    record {
-      left =
-          turn.invariant.left ∙ nodes-next s left turn.place _ _ (omega (arith, c.loop-test.true)) here
-          ∙ ap (λ n. nodes_from n (turn.place + c.in-Ok.own) s) fewer;
-      some = omega (arith, turn.invariant.some);
-      inside = omega (arith, inside);
-    }
+    operand-passed c.loop.invariant node_head read_node nodes-next node-inside _ _ c.loop-test.true c.in-Ok.ensures
 
 pub read_nodes-returns : goal.read_nodes-returns
-read_nodes-returns t c =
-    let s = c.args.q.now in
-    let turn = c.loop in
-    let all : c.args.n - turn.counter ≡ 0 = omega (arith, c.loop-test.false) in
-    sym (turn.invariant.left ∙ ap (λ n. nodes_from n turn.place s) all ∙ nodes-none s turn.place)
+read_nodes-returns t c = operands-over c.loop.invariant nodes-none (omega (arith, c.loop-test.false))
